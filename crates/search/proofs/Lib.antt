@@ -1,0 +1,3 @@
+pub mod Standing
+pub mod Nearest
+pub mod Single

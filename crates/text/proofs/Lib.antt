@@ -1,0 +1,9 @@
+pub mod Tables
+pub mod Names
+pub mod Finite
+pub mod Pending
+pub mod Rule
+pub mod Language
+pub mod Cuts
+pub mod Std
+pub mod Forms
