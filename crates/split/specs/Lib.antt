@@ -1,0 +1,3 @@
+pub mod Occurrences
+pub mod Fields
+pub mod Laws
