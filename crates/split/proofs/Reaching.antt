@@ -45,16 +45,19 @@ module _ (d t : List ℕ) where
   gone-before to (suc n) [] e = refl
   gone-before to (suc n) (p ∷ ps) e = gone-before p n ps e
 
+  -- the places that are left where the walk has come to s
+  pub left-places : (n s : ℕ) → end-after d 0 (occurrences d t) n ≡ Some s → drop n (occurrences d t) ≡ places-past d t s
+  left-places n s e = greedy-unique d t s _ _ (rest-past 0 n s _ (past-greedy d t 0) e) (past-greedy d t s)
+
+  pub right-places : (n s : ℕ) → start-before (length t) (occurrences-back d t) n ≡ Some s → drop n (occurrences-back d t) ≡ places-before d t s
+  right-places n s e = right-unique d t s _ _ (rest-before (length t) n s _ (before-greedy d t (length t)) e) (before-greedy d t s)
+
   -- the field that begins at s, where the walk has come to
   at-left : (n s : ℕ) → end-after d 0 (occurrences d t) n ≡ Some s → nth (left-fields d t) n ≡ nth (cut-up d t s (places-past d t s)) 0
-  at-left n s e =
-      let rest = greedy-unique d t s _ _ (rest-past 0 n s _ (past-greedy d t 0) e) (past-greedy d t s) in
-      field-past 0 n s (occurrences d t) e ∙ ap (λ ps. nth (cut-up d t s ps) 0) rest
+  at-left n s e = field-past 0 n s (occurrences d t) e ∙ ap (λ ps. nth (cut-up d t s ps) 0) (left-places n s e)
 
   at-right : (n s : ℕ) → start-before (length t) (occurrences-back d t) n ≡ Some s → nth (right-fields d t) n ≡ nth (cut-down d t s (places-before d t s)) 0
-  at-right n s e =
-      let rest = right-unique d t s _ _ (rest-before (length t) n s _ (before-greedy d t (length t)) e) (before-greedy d t s) in
-      field-before (length t) n s (occurrences-back d t) e ∙ ap (λ ps. nth (cut-down d t s ps) 0) rest
+  at-right n s e = field-before (length t) n s (occurrences-back d t) e ∙ ap (λ ps. nth (cut-down d t s ps) 0) (right-places n s e)
 
   pub left-field : (n s p : ℕ) → end-after d 0 (occurrences d t) n ≡ Some s → Next d t s p → nth (left-fields d t) n ≡ Some (between s p t, s)
   left-field n s p e x = at-left n s e ∙ ap (λ ps. nth (cut-up d t s ps) 0) (past-some d t s p x)
