@@ -1,4 +1,4 @@
--- The longest head and the longest tail of a text that are made of characters of a set. Assumes nothing.
+-- The longest head and the longest tail of a text that are made of characters of a set.
 use mathlib.Core.Bool.{Bool}
 use mathlib.Core.List.{List}
 use Prim.Native.Nat.{ℕ, _-_}

@@ -1,5 +1,5 @@
 -- Trimming as PostgreSQL's manual has it: the longest string containing only characters in the set goes from the start,
--- the end, or both ends. Assumes nothing.
+-- the end, or both ends.
 use mathlib.Core.Path.{_≡_}
 use mathlib.Core.Bool.{Bool, true, false}
 use mathlib.Core.List.{List, [], _++_}

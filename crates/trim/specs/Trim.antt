@@ -1,4 +1,4 @@
--- What a trim removes from a row, what remains of it, and where that begins. Assumes nothing.
+-- What a trim removes from a row, what remains of it, and where that begins.
 use mathlib.Core.Bool.{Bool, cond}
 use mathlib.Core.List.{List, []}
 use Prim.Native.Nat.{ℕ}
