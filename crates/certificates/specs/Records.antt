@@ -4,8 +4,8 @@ use mathlib.Core.List.{List, [], _∷_}
 use Prim.Native.Nat.{ℕ}
 use lib.Chars.{codes}
 use lib.Dec.{leb}
-use lib.IntN.{pos}
-use denote.Ref.{now}
+use lib.IntN.{ℤ, pos}
+use denote.Ref.{RefT, now}
 use Rattle.std.specs.Options.{isSome}
 use Rattle.std.specs.shelf.Maps.{nth}
 use Rattle.std.specs.shelf.Text.{sameBytes}
@@ -14,7 +14,8 @@ use Rattle.std.specs.declared.option.Option.the-variants.{Some, None}
 use Rattle.std.specs.declared.result.Result.{Result}
 use Rattle.std.specs.declared.result.Result.the-variants.{Ok, Err}
 use Rattle.fault.specs.declared.Fault.{Fault}
-use Rattle.split.specs.Fields.{left-fields, missing}
+use Rattle.split.specs.Fields.{Part, field-at, left-fields, missing}
+use Rattle.trim.specs.Trim.{trimmed}
 use Rattle.std.specs.Options.{valueOr}
 use Rattle.certificates.specs.Numerals.{numeral-of}
 use Rattle.certificates.specs.declared.conditions.Condition.{Condition}
@@ -23,9 +24,17 @@ use Rattle.certificates.specs.declared.conditions.Refusal.the-variants.{FieldC
 use Rattle.certificates.specs.declared.kinds.Kind.{Kind}
 use Rattle.certificates.specs.declared.kinds.Kind.the-variants.{ConditionLine, AxleLine, EndLine, UnknownLine}
 
--- the nth field of a line, counted from 0, cut at `;`
-abbrev pub field : List ℕ → ℕ → List ℕ
-field line n = valueOr (nth (left-fields (codes ";") line) n) missing .0
+-- the field at a position of a line cut at `;`, without the spaces around it
+abbrev pub unpadded : Result Part Fault → Result (List ℕ) Fault
+unpadded (Ok p) = Ok (trimmed true true (codes " ") (p .0) .0)
+unpadded (Err e) = Err e
+
+abbrev pub cell : List ℕ → ℤ → Result (List ℕ) Fault
+cell line n = unpadded (field-at (codes ";") line n)
+
+-- the nth such field, counted from 0
+abbrev pub nth-field : List ℕ → ℕ → List ℕ
+nth-field line n = trimmed true true (codes " ") (valueOr (nth (left-fields (codes ";") line) n) missing .0) .0
 
 -- the kind of a line, by its first field
 abbrev pub kind-by : List ℕ → Kind
@@ -40,9 +49,9 @@ pub record Fields : Type 0 where
 
 abbrev pub fields-of : List ℕ → Fields
 fields-of line = record {
-  temperature = field line 1;
-  surface = field line 2;
-  warm = field line 3;
+  temperature = nth-field line 1;
+  surface = nth-field line 2;
+  warm = nth-field line 3;
   whole = isSome (nth (left-fields (codes ";") line) 3) && cond (isSome (nth (left-fields (codes ";") line) 4)) false true;
 }
 
@@ -67,3 +76,7 @@ read c = record { temperature = now (c .temperature); surface = now (c .surface)
 abbrev pub read-told : Result Condition Fault → Result Fields Fault
 read-told (Ok c) = Ok (read c)
 read-told (Err e) = Err e
+
+abbrev pub told : Result (RefT (List ℕ)) Fault → Result (List ℕ) Fault
+told (Ok s) = Ok (now s)
+told (Err e) = Err e

@@ -1,8 +1,7 @@
 //! Reading a line: its kind, and a condition line's fields, cut by split at `;`.
-ghost use lib.Chars.{codes};
 ghost use mathlib.Core.Path.{_≡_};
 ghost use Rattle.std.specs.declared.result.Result.the-variants.{Ok};
-ghost use Rattle.certificates.specs.Records.{field, fields-of, kind-by, read-told};
+ghost use Rattle.certificates.specs.Records.{cell, fields-of, kind-by, nth-field, read-told, told};
 use crate::conditions::Condition;
 use crate::kinds::Kind;
 use fault::Fault;
@@ -10,13 +9,24 @@ use search::finder::Finder;
 use search::finder::FinderSearcher;
 use split::split_nth_finder;
 use split::split_part;
+use trim::trimmer::BothTrimmer;
+use trim::trimmer::TrimBoth;
+use trim::trimmer::Trimmer;
+
+/// The field of a line at a position, without the spaces that some benches pad it with.
+fn field(line: &str, position: i64) -> Result<&str, Fault>
+    ensures { λ r. ⌜ told r ≡ cell (now (line .entry)) position ⌝ }
+{
+    let (padded, _) = split_part(line, &Finder::new(";"), position)?;
+    let (field, _) = TrimBoth::trim_spaces(padded);
+    Ok(field)
+}
 
 /// The kind of a line.
 pub fn line_kind(line: &str) -> Result<Kind, Fault>
-    ensures { λ r. ⌜ r ≡ Ok (kind-by (field (now (line .entry)) 0)) ⌝ }
+    ensures { λ r. ⌜ r ≡ Ok (kind-by (nth-field (now (line .entry)) 0)) ⌝ }
 {
-    let (letter, _) = split_part(line, &Finder::new(";"), 1)?;
-    Ok(Kind::of(letter))
+    Ok(Kind::of(field(line, 1)?))
 }
 
 /// The fields of a condition line.
@@ -24,11 +34,10 @@ pub fn condition(line: &str) -> Result<Condition<'_>, Fault>
     ensures { λ r. ⌜ read-told r ≡ Ok (fields-of (now (line .entry))) ⌝ }
 {
     let semicolon = Finder::new(";");
-    let (temperature, _) = split_part(line, &semicolon, 2)?;
-    let (surface, _) = split_part(line, &semicolon, 3)?;
-    let (warm_up, _) = split_part(line, &semicolon, 4)?;
-    let whole = split_nth_finder(line, &semicolon, 3).is_some()
-        && split_nth_finder(line, &semicolon, 4).is_none();
+    let temperature = field(line, 2)?;
+    let surface = field(line, 3)?;
+    let warm_up = field(line, 4)?;
+    let whole = split_nth_finder(line, &semicolon, 3).is_some() && split_nth_finder(line, &semicolon, 4).is_none();
     Ok(Condition {
         temperature,
         surface,

@@ -25,7 +25,7 @@ Reads an upload of roller brake test bench lines, from the file UPLOAD or from s
 input, and tells for each line what became of it.
 
 A line ends with a line feed, before which a carriage return is passed over. Each line is
-opened as UTF-8 text by itself and cut at `;`:
+opened as UTF-8 text by itself and cut at `;`, and spaces around a field are trimmed:
   C;215;dry;25      a condition line: temperature in tenths of a degree, surface, warm-up
                     in minutes. The certificate holds at 150 to 300 tenths, a surface `dry`
                     and a warm-up of at least 20. Numbers have one to three digits, no sign
