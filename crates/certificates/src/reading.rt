@@ -37,7 +37,8 @@ pub fn condition(line: &str) -> Result<Condition<'_>, Fault>
     let temperature = field(line, 2)?;
     let surface = field(line, 3)?;
     let warm_up = field(line, 4)?;
-    let whole = split_nth_finder(line, &semicolon, 3).is_some() && split_nth_finder(line, &semicolon, 4).is_none();
+    let whole = split_nth_finder(line, &semicolon, 3).is_some()
+        && split_nth_finder(line, &semicolon, 4).is_none();
     Ok(Condition {
         temperature,
         surface,

@@ -31,7 +31,12 @@ pub enum Operation {
 
 /// The part of `row` that is asked for, and its place. The operand is a delimiter, or a set of
 /// characters to trim; a trim does not look at the number. `samples` are rows worked out by hand.
-pub fn answer<'t>(operation: Operation, row: &'t str, operand: &str, number: i64) -> Result<(&'t str, u64), Fault>
+pub fn answer<'t>(
+    operation: Operation,
+    row: &'t str,
+    operand: &str,
+    number: i64,
+) -> Result<(&'t str, u64), Fault>
     ensures answer { λ r. ⌜ answered r ≡ answer-to operation (now (row .entry)) (now (operand .entry)) number ⌝ }
     ensures samples { λ _. ⌜ SamplesHold ⌝ }
 {

@@ -88,11 +88,25 @@ fn replay(rt: &LibcRuntime, line: &[u8]) -> Result<Result<(), Difference>, AnyEr
     ) else {
         return Ok(Err(Difference::NoRequest));
     };
-    Ok(compare(operation, row.as_slice(), operand.as_slice(), number, bytes.as_slice(), place))
+    Ok(compare(
+        operation,
+        row.as_slice(),
+        operand.as_slice(),
+        number,
+        bytes.as_slice(),
+        place,
+    ))
 }
 
 /// Whether the answer has these bytes at this place; a place below 0 is not compared.
-fn compare(operation: Operation, row: &[u8], operand: &[u8], number: i64, bytes: &[u8], place: i64) -> Result<(), Difference> {
+fn compare(
+    operation: Operation,
+    row: &[u8],
+    operand: &[u8],
+    number: i64,
+    bytes: &[u8],
+    place: i64,
+) -> Result<(), Difference> {
     let (Ok(row), Ok(operand)) = (open_text(row), open_text(operand)) else {
         return Err(Difference::NoRequest);
     };
