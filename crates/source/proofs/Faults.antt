@@ -1,0 +1,46 @@
+-- The first fault of several, as a loop comes upon it.
+use mathlib.Core.Path.{_≡_, refl, sym, ap, _∙_}
+use mathlib.Core.Bool.{Bool, true, false}
+use mathlib.Core.Logic.{_⊎_, inl, inr}
+use Prim.Native.Nat.{ℕ, zero, suc, _+_, _-_, _<_, _≤_}
+use native.Mathlib.Numerals.{add-one}
+use native.Mathlib.Omega.{arith}
+use Rattle.std.proofs.shelf.Tests.{cases-eq}
+use Rattle.std.specs.declared.option.Option.the-variants.{Some, None}
+use Rattle.fault.specs.declared.Fault.{Fault}
+use Rattle.source.specs.Verdicts.{Verdict, unless, then, first-fault, accepts}
+
+-- one number more
+pub first-fault-more : (f : ℕ → Verdict) (n : ℕ) → first-fault f n ≡ None → first-fault f (n + 1) ≡ f n
+first-fault-more f n h = ap (first-fault f) (add-one n) ∙ ap (λ v. then v (f n)) h
+
+-- a fault that is found stays the first
+stays : (f : ℕ → Verdict) (e : Fault) (n k : ℕ) → first-fault f n ≡ Some e → first-fault f (k + n) ≡ Some e
+stays f e n zero h = let z : zero + n ≡ n = omega arith in ap (first-fault f) z ∙ h
+stays f e n (suc k) h =
+    let z : suc k + n ≡ suc (k + n) = omega arith in
+    ap (first-fault f) z ∙ ap (λ v. then v (f (k + n))) (stays f e n k h)
+
+pub first-fault-found : (f : ℕ → Verdict) (e : Fault) (i n : ℕ) → i < n → first-fault f i ≡ None → f i ≡ Some e → first-fault f n ≡ Some e
+first-fault-found f e i n l h g =
+    let z : (n - (i + 1)) + (i + 1) ≡ n = omega arith in
+    ap (first-fault f) (sym z) ∙ stays f e (i + 1) (n - (i + 1)) (first-fault-more f i h ∙ g)
+
+-- no fault at all
+pub none-from-accepts : (v : Verdict) → accepts v ≡ true → v ≡ None
+none-from-accepts None h = refl
+none-from-accepts (Some e) h = let z : _≡_ {A = ℕ} 0 1 = cc in absurd (omega arith)
+
+pub true-from-unless : (b : Bool) (e : Fault) → unless b e ≡ None → b ≡ true
+true-from-unless true e h = refl
+true-from-unless false e h = let z : _≡_ {A = ℕ} 0 1 = cc in absurd (omega arith)
+
+pub then-none : (u v : Verdict) → then u v ≡ None → (u ≡ None) × (v ≡ None)
+then-none None v h = (refl, h)
+then-none (Some e) v h = let z : _≡_ {A = ℕ} 0 1 = cc in absurd (omega arith)
+
+pub first-fault-none : (f : ℕ → Verdict) (n k : ℕ) → first-fault f n ≡ None → k < n → f k ≡ None
+first-fault-none f zero k h l = absurd (omega arith)
+first-fault-none f (suc n) k h l =
+    let e = then-none (first-fault f n) (f n) h in
+    elim (cases-eq k n) [ inl q ↦ ap f q ∙ e .1 | inr q ↦ first-fault-none f n k (e .0) (omega arith) ]
