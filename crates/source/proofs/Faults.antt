@@ -1,6 +1,7 @@
 -- The first fault of several, as a loop comes upon it.
 use mathlib.Core.Path.{_≡_, refl, sym, ap, _∙_}
 use mathlib.Core.Bool.{Bool, true, false}
+use mathlib.Core.List.{List}
 use mathlib.Core.Logic.{_⊎_, inl, inr}
 use Prim.Native.Nat.{ℕ, zero, suc, _+_, _-_, _<_, _≤_}
 use native.Mathlib.Numerals.{add-one}
@@ -8,7 +9,9 @@ use native.Mathlib.Omega.{arith}
 use Rattle.std.proofs.shelf.Tests.{cases-eq}
 use Rattle.std.specs.declared.option.Option.the-variants.{Some, None}
 use Rattle.fault.specs.declared.Fault.{Fault}
-use Rattle.source.specs.Verdicts.{Verdict, unless, then, first-fault, accepts}
+use Rattle.source.specs.Rows.{Row}
+use Rattle.source.specs.Verdicts.{Verdict, unless, then, first-fault, malformed, accepts}
+use Rattle.text.specs.Steps.{formed}
 
 -- one number more
 pub first-fault-more : (f : ℕ → Verdict) (n : ℕ) → first-fault f n ≡ None → first-fault f (n + 1) ≡ f n
@@ -44,3 +47,6 @@ first-fault-none f zero k h l = absurd (omega arith)
 first-fault-none f (suc n) k h l =
     let e = then-none (first-fault f n) (f n) h in
     elim (cases-eq k n) [ inl q ↦ ap f q ∙ e .1 | inr q ↦ first-fault-none f n k (e .0) (omega arith) ]
+
+pub formed-from-none : (i : ℕ) (r : Row) (t : List ℕ) → r ≡ Some t → malformed i r ≡ None → formed t ≡ true
+formed-from-none i r t e h = true-from-unless (formed t) _ (ap (malformed i) (sym e) ∙ h)

@@ -1,9 +1,10 @@
 -- Rows, windows of them, and one row repeated.
 use mathlib.Core.Bool.{cond}
-use mathlib.Core.List.{List}
+use mathlib.Core.List.{List, map}
 use Prim.Native.Nat.{ℕ, _+_}
 use lib.Dec.{leb}
 use lib.ListN.{length, take, drop}
+use Rattle.std.specs.Iters.{counting}
 use Rattle.std.specs.declared.option.Option.{Option}
 use Rattle.std.specs.declared.result.Result.{Result}
 use Rattle.std.specs.declared.result.Result.the-variants.{Ok, Err}
@@ -13,6 +14,10 @@ use Rattle.fault.specs.declared.Fault.the-variants.{Window}
 -- a row is null, or the bytes of its text
 abbrev pub Row : Type 0
 Row = Option (List ℕ)
+
+-- n rows, by their numbers
+unfoldable pub rows-by : {X : Type 0} → (ℕ → X) → ℕ → List X
+rows-by f n = map f (counting 0 n)
 
 -- n of the rows from the row numbered f on, as far as they go
 abbrev pub window : {X : Type 0} → ℕ → ℕ → List X → List X

@@ -6,6 +6,9 @@ use Rattle.std.specs.declared.option.Option.the-variants.{Some, None}
 use Rattle.std.specs.declared.result.Result.{Result}
 use Rattle.std.specs.declared.result.Result.the-variants.{Ok, Err}
 use Rattle.fault.specs.declared.Fault.{Fault}
+use Rattle.fault.specs.declared.Fault.the-variants.{Malformed}
+use Rattle.source.specs.Rows.{Row}
+use Rattle.text.specs.Steps.{formed}
 
 abbrev pub Verdict : Type 0
 Verdict = Option Fault
@@ -23,6 +26,11 @@ then None v = v
 abbrev pub first-fault : (ℕ → Verdict) → ℕ → Verdict
 first-fault f zero = None
 first-fault f (suc n) = then (first-fault f n) (f n)
+
+-- the fault of a row that is not null and not well-formed
+abbrev pub malformed : ℕ → Row → Verdict
+malformed i None = None
+malformed i (Some t) = unless (formed t) (Malformed i)
 
 -- there is no fault
 abbrev pub accepts : Verdict → Bool

@@ -1,0 +1,3 @@
+pub mod Offsets
+pub mod Positions
+pub mod Reading

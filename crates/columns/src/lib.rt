@@ -1,0 +1,5 @@
+//! Columns over lent memory in Arrow's layouts: text cut by offsets, and positions.
+//! Opening a column is the only way to get one, and checks everything, so that no later call meets a damaged row.
+pub mod lent;
+mod reading;
+pub mod width;
