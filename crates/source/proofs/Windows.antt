@@ -1,5 +1,5 @@
--- A row of a window.
-use mathlib.Core.Path.{_≡_, refl, sym, ap, _∙_}
+-- A window of rows: `all` is their number, and `k` how many of them are in the window.
+use mathlib.Core.Path.{_≡_, sym, _∙_}
 use mathlib.Core.List.{List}
 use Prim.Native.Nat.{ℕ, _+_, _-_, _<_, _≤_, min}
 use native.Mathlib.Omega.{arith}
@@ -7,12 +7,12 @@ use lib.ListN.{length, take, drop, getD}
 use Rattle.std.proofs.shelf.Lists.{length-take, length-drop, getD-take, getD-drop, getD-past}
 use Rattle.source.specs.Rows.{window}
 
-module _ {X : Type 0} (rows : List X) (f n : ℕ) where
-  pub length-window : length (window f n rows) ≡ min n (length rows - f)
-  length-window = simp (length-take, length-drop)
+module _ {X : Type 0} (rows : List X) (f n all k : ℕ) (told : all ≡ length rows) (clipped : k ≡ min n (all - f)) where
+  pub length-window : k ≡ length (window f n rows)
+  length-window = simp (length-take, length-drop) (omega arith)
 
-  pub in-window : (i : ℕ) → i < length (window f n rows) → (i < n) × (f + i < length rows)
-  in-window i h = let e = length-window in (omega arith, omega arith)
+  pub past-window : (i : ℕ) (d : X) → k ≤ i → d ≡ getD (window f n rows) i d
+  past-window i d l = let e = length-window in sym (getD-past (window f n rows) i d (omega arith))
 
-  pub at-window : (i : ℕ) (d : X) → i < length (window f n rows) → getD (window f n rows) i d ≡ getD rows (f + i) d
-  at-window i d h = getD-take n (drop f rows) i d (in-window i h .0) ∙ getD-drop f rows i d
+  pub in-window : (i : ℕ) (d x : X) → i < k → x ≡ getD rows (f + i) d → x ≡ getD (window f n rows) i d
+  in-window i d x l e = e ∙ sym (getD-take n (drop f rows) i d (omega arith) ∙ getD-drop f rows i d)
