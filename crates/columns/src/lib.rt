@@ -3,5 +3,8 @@
 pub mod lent;
 pub mod offset_column_32;
 pub mod offset_column_64;
+pub mod position_column;
 mod reading;
 pub mod width;
+pub mod width_32;
+pub mod width_64;

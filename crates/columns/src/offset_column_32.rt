@@ -7,7 +7,7 @@ ghost use Rattle.columns.specs.Reading.{itself, lists};
 ghost use Rattle.source.specs.Verdicts.{accepts, fault-of};
 ghost use Rattle.std.specs.Results.{Cases};
 use crate::lent::Lent;
-use crate::width::Width32;
+use crate::width_32::Width32;
 use fault::Fault;
 use source::Source;
 
