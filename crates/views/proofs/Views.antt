@@ -7,13 +7,14 @@ use native.Mathlib.Omega.{arith}
 use lib.Dec.{leb, ltb, eqb}
 use lib.ListN.{length, getD}
 use Rattle.std.proofs.shelf.Equals.{sameBytes-decides}
+use Rattle.std.proofs.shelf.Lists.{length-take, length-drop}
 use Rattle.std.proofs.shelf.Tests.{and-parts, and-from, and-left, and-right, eq-eqb, ne-eqb, le-leb, lt-leb, leb-true, ltb-true}
 use Rattle.std.proofs.shelf.Ways.{same-from-decides}
 use Rattle.std.specs.Orderings.{Decides}
 use Rattle.std.specs.shelf.Text.{sameBytes}
 use Rattle.std.specs.declared.option.Option.the-variants.{Some, None}
 use Rattle.source.proofs.Faults.{true-from-unless, first-fault-none}
-use Rattle.views.specs.Layout.{Data, Lists, fits, text, part, blank, short-rule, long-rule, buffer-start, buffer-end, in-buffer, buffer, place, size, offset}
+use Rattle.views.specs.Layout.{Data, Lists, LiesIn, fits, text, part, blank, short-rule, long-rule, buffer-start, buffer-end, in-buffer, buffer, place, size, offset}
 use Rattle.views.specs.Verdict.{enough, end-holds, end-fault, ends-fault}
 
 -- all bytes are 0, or one is not
@@ -33,11 +34,13 @@ ends-hold d b h l =
     let p = and-parts _ _ (true-from-unless (end-holds d b) _ (first-fault-none (end-fault d) (length (d .ends)) b h l)) in
     (leb-true _ _ (p .0), leb-true _ _ (p .1))
 
--- what lies in its buffer
-pub in-room : (d : Data) (v : List ℕ) → in-buffer d v ≡ true → (buffer v < length (d .ends)) × (offset v + size v ≤ buffer-end (d .ends) (buffer v) - buffer-start (d .ends) (buffer v))
+-- what lies in its buffer, and ends at a signed 32-bit number
+pub in-room : (d : Data) (v : List ℕ) → in-buffer d v ≡ true → (buffer v < length (d .ends)) × (offset v + size v ≤ buffer-end (d .ends) (buffer v) - buffer-start (d .ends) (buffer v)) × (offset v + size v ≤ 2147483647)
 in-room d v t =
-    let p : (ltb (buffer v) (length (d .ends)) ≡ true) × ((leb (offset v + size v) (buffer-end (d .ends) (buffer v) - buffer-start (d .ends) (buffer v)) && leb (offset v + size v) 2147483647) ≡ true) = and-parts _ _ t in
-    (ltb-true _ _ (p .0), leb-true _ _ (and-parts _ _ (p .1) .0))
+    let room : ℕ = buffer-end (d .ends) (buffer v) - buffer-start (d .ends) (buffer v) in
+    let p : (ltb (buffer v) (length (d .ends)) ≡ true) × ((leb (offset v + size v) room && leb (offset v + size v) 2147483647) ≡ true) = and-parts _ _ t in
+    let q : (leb (offset v + size v) room ≡ true) × (leb (offset v + size v) 2147483647 ≡ true) = and-parts _ _ (p .1) in
+    (ltb-true _ _ (p .0), leb-true _ _ (q .0), leb-true _ _ (q .1))
 
 pub in-place : (d : Data) (v : List ℕ) → ends-fault d ≡ None → in-buffer d v ≡ true → (buffer v < length (d .ends)) × (place d v + size v ≤ length (d .bytes))
 in-place d v h t =
@@ -79,6 +82,21 @@ module _ (d : Data) (v : List ℕ) where
       let small : size v ≤ 2147483647 = leb-true _ _ (and-parts _ _ h .0) in
       let r : long-rule d v ≡ true = sym (fits-long k small) ∙ h in
       and-parts _ _ r .0
+
+  -- so its text lies where the view says
+  pub lies-in : ends-fault d ≡ None → fits d v ≡ true → 12 < size v → LiesIn d (text d v) (buffer v) (offset v)
+  lies-in e h k =
+      let w : in-buffer d v ≡ true = within-from-fits h k in
+      let r = in-room d v w in
+      let p : place d v + size v ≤ length (d .bytes) = in-place d v e w .1 in
+      let t : text d v ≡ part (place d v) (size v) (d .bytes) = text-long k in
+      let l : length (text d v) ≡ size v = ap length t ∙ simp (length-take, length-drop) (omega arith) in
+      record {
+        known = r .0;
+        within = omega arith;
+        small = omega arith;
+        there = ap (λ (n : ℕ). part (place d v) n (d .bytes)) l ∙ sym t;
+      }
 
   -- the first four bytes are compared
   pub fits-compared : (xs ys : List ℕ) (r : Bool) → 12 < size v → size v ≤ 2147483647 → in-buffer d v ≡ true → xs ≡ part 4 4 v → ys ≡ part (place d v) 4 (d .bytes) → Decides r (xs ≡ ys) → r ≡ fits d v

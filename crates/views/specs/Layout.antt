@@ -1,7 +1,8 @@
 -- View columns, from the variable-size binary view layout of Arrow's columnar format.
 use mathlib.Core.List.{List, [], _∷_}
 use mathlib.Core.Bool.{Bool, true, cond, _&&_}
-use Prim.Native.Nat.{ℕ, _+_, _-_, _*_}
+use mathlib.Core.Path.{_≡_}
+use Prim.Native.Nat.{ℕ, _+_, _-_, _*_, _<_, _≤_}
 use lib.Dec.{leb, ltb, eqb}
 use lib.ListN.{length, getD, take, drop}
 use Rattle.std.specs.shelf.Text.{sameBytes}
@@ -85,6 +86,13 @@ row-at m i = cond (valid (m .validity) i) (Some (text (m .buffers) (view m i))) 
 -- the first n rows
 abbrev pub rows-in : ℕ → Lists → List Row
 rows-in n m = rows-by (row-at m) n
+
+-- a text lies in a buffer at an offset
+pub record LiesIn (d : Data) (t : List ℕ) (b o : ℕ) : Type 0 where
+  pub known : b < length (d .ends)
+  pub within : o + length t ≤ buffer-end (d .ends) b - buffer-start (d .ends) b
+  pub small : o + length t ≤ 2147483647
+  pub there : part (buffer-start (d .ends) b + o) (length t) (d .bytes) ≡ t
 
 -- the buffer's number and the offset of a row that lies in a buffer
 abbrev pub place-at : Lists → ℕ → Option (ℕ × ℕ)

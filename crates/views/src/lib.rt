@@ -4,3 +4,4 @@ mod buffers;
 mod bytes;
 pub mod lent;
 mod reading;
+pub mod view_column;

@@ -6,7 +6,8 @@ ghost use Prim.Native.Nat.{_*_, _+_, _<_, _≤_};
 ghost use Rattle.source.specs.Verdicts.{accepts, first-fault};
 ghost use Rattle.std.specs.declared.option.Option.the-variants.{None};
 ghost use Rattle.std.specs.Options.{mapped};
-ghost use Rattle.views.specs.Layout.{places-in, rows-in, view};
+ghost use Rattle.std.specs.Slices.{found};
+ghost use Rattle.views.specs.Layout.{LiesIn, places-in, rows-in, text, view};
 ghost use Rattle.views.specs.Reading.{held, lists};
 ghost use Rattle.views.specs.Verdict.{ends-fault, enough, row-fault, verdict};
 use crate::bytes::word;
@@ -100,7 +101,8 @@ impl<'a> Lent<'a> {
     /// The buffer's number and the offset in it of a row that lies in a buffer, of rows that may be opened.
     pub(crate) fn place(&self, rows: usize, row: usize) -> Option<(u32, u32)>
         requires { ⌜ accepts (verdict rows (lists (now self))) ≡ true ⌝ }
-        ensures { λ r. ⌜ r ≡ getD (places-in rows (lists (now (self .entry)))) row None ⌝ }
+        ensures answer { λ r. ⌜ r ≡ getD (places-in rows (lists (now (self .entry)))) row None ⌝ }
+        ensures lies { λ r. ⌜ found r (λ p. LiesIn (held (now (self .entry) .buffers)) (text (held (now (self .entry) .buffers)) (view (lists (now (self .entry))) row)) (p .0) (p .1)) ⌝ }
     {
         if row >= rows {
             return None;
