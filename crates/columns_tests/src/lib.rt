@@ -1,0 +1,5 @@
+//! Tests of the columns, windows and sources on examples.
+#[cfg(test)]
+mod offsets;
+#[cfg(test)]
+mod report;
