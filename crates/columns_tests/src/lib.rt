@@ -3,3 +3,5 @@
 mod offsets;
 #[cfg(test)]
 mod report;
+#[cfg(test)]
+mod windows;
