@@ -1,5 +1,6 @@
 use columns::position_column::PositionColumn;
 use columns::position_column::PositionColumnPositions;
+use fault::FaultDebug;
 use source::Positions;
 use source::Source;
 use source::repeated::Repeated;
