@@ -26,8 +26,11 @@ abbrev pub place-of : ℤ → Option ℕ
 place-of (pos n) = Some n
 place-of (negsuc n) = None
 
+abbrev pub offset : Lists → ℕ → ℤ
+offset m i = getD (m .offsets) i (pos 0)
+
 abbrev pub place : Lists → ℕ → Option ℕ
-place m i = place-of (getD (m .offsets) i (pos 0))
+place m i = place-of (offset m i)
 
 -- what lies between two places; nothing where they are not places in order within the bytes
 abbrev pub cut : List ℕ → Option ℕ → Option ℕ → Option (List ℕ)

@@ -5,6 +5,7 @@ ghost use mathlib.Core.Bool.{true};
 ghost use mathlib.Core.List.{map};
 ghost use mathlib.Core.Path.{_≡_};
 ghost use Prim.Native.Nat.{_+_, _<_};
+ghost use Rattle.columns.specs.Meaning.{Says};
 ghost use Rattle.columns.specs.Offsets.{enough, part, place-of, row-fault, rows-in, verdict};
 ghost use Rattle.columns.specs.Reading.{lists};
 ghost use Rattle.source.specs.Verdicts.{accepts, first-fault};
@@ -81,7 +82,8 @@ impl<'a, W: Width> Lent<'a, W> {
 
     /// The fault that opening the rows meets first.
     pub(crate) fn fault(&self, rows: usize) -> Option<Fault>
-        ensures { λ r. ⌜ r ≡ verdict rows (lists number (now (self .entry))) ⌝ }
+        ensures answer { λ r. ⌜ r ≡ verdict rows (lists number (now (self .entry))) ⌝ }
+        ensures meaning { λ r. ⌜ Says rows (lists number (now (self .entry))) r ⌝ }
     {
         if !self.is_enough(rows) {
             return Some(Fault::ShortList);

@@ -50,3 +50,12 @@ first-fault-none f (suc n) k h l =
 
 pub formed-from-none : (i : ℕ) (r : Row) (t : List ℕ) → r ≡ Some t → malformed i r ≡ None → formed t ≡ true
 formed-from-none i r t e h = true-from-unless (formed t) _ (ap (malformed i) (sym e) ∙ h)
+
+first-fault-step : (f : ℕ → Verdict) (n : ℕ) (e : Fault) (v : Verdict) → first-fault f n ≡ v → then v (f n) ≡ Some e → (first-fault f n ≡ Some e → (k : ℕ) × ((k < n) × (f k ≡ Some e) × (first-fault f k ≡ None))) → (k : ℕ) × ((k < suc n) × (f k ≡ Some e) × (first-fault f k ≡ None))
+first-fault-step f n e None g h r = (n, (omega arith, h, g))
+first-fault-step f n e (Some d) g h r = let k = r (g ∙ h) in (k .0, (omega (arith, k .1 .0), k .1 .1, k .1 .2))
+
+-- a fault that is found is the first
+pub first-fault-some : (f : ℕ → Verdict) (n : ℕ) (e : Fault) → first-fault f n ≡ Some e → (k : ℕ) × ((k < n) × (f k ≡ Some e) × (first-fault f k ≡ None))
+first-fault-some f zero e h = let z : _≡_ {A = ℕ} 0 1 = cc in absurd (omega arith)
+first-fault-some f (suc n) e h = first-fault-step f n e (first-fault f n) refl h (λ g. first-fault-some f n e g)
