@@ -1,9 +1,10 @@
 -- Arrow's validity bitmaps: bit i mod 8 of byte i ÷ 8, lowest first, is 1 where slot i is valid.
 use mathlib.Core.Bool.{Bool, true}
 use mathlib.Core.List.{List}
-use Prim.Native.Nat.{ℕ, _+_, _/_, _%_, _^_}
+use Prim.Native.Nat.{ℕ, _+_, _/_, _%_, _^_, _≤_}
 use lib.Dec.{eqb, leb}
 use lib.ListN.{length, getD}
+use Rattle.std.specs.Options.{Cases}
 use Rattle.std.specs.declared.option.Option.{Option}
 use Rattle.std.specs.declared.option.Option.the-variants.{Some, None}
 
@@ -24,3 +25,7 @@ bitmap-bytes n = (n + 7) / 8
 abbrev pub covers : Option (List ℕ) → ℕ → Bool
 covers None n = true
 covers (Some bytes) n = leb (bitmap-bytes n) (length bytes)
+
+-- the same in words
+abbrev pub Covers : Option (List ℕ) → ℕ → Type 0
+Covers v n = Cases v (Unit {0}) (λ bytes. bitmap-bytes n ≤ length bytes)

@@ -8,35 +8,30 @@ use native.Mathlib.Numerals.{add-one}
 use native.Mathlib.Omega.{arith}
 use lib.Dec.{leb, ltb, eqb}
 use lib.IntN.{ℤ, pos, negsuc, natAbs}
-use lib.ListN.{length}
+use lib.ListN.{length, getD}
 use lib.Signed.{_≤ℤ_}
 use Rattle.std.proofs.shelf.Signed.{ints}
 use Rattle.std.proofs.shelf.Tests.{cases-bool, and-parts, leb-true, le-leb, and-from, false≢true, cases-lt}
 use Rattle.std.proofs.shelf.Ways.{tells, decides-and, decides-like, decides-or, decides-eqb, decides-ltb}
-use Rattle.std.specs.Options.{Cases, isSome}
+use Rattle.std.specs.Options.{isSome}
 use Rattle.std.specs.Orderings.{Decides}
 use Rattle.std.specs.shelf.Lists.{between}
 use Rattle.std.specs.declared.option.Option.{Option}
 use Rattle.std.specs.declared.option.Option.the-variants.{Some, None}
 use Rattle.fault.specs.declared.Fault.{Fault}
 use Rattle.fault.specs.declared.Fault.the-variants.{ShortList, Offset, Malformed}
-use Rattle.bitmap.specs.Validity.{bitmap-bytes, covers, valid}
+use Rattle.bitmap.specs.Validity.{valid}
+use Rattle.bitmap.proofs.Covering.{covers-decides}
 use Rattle.source.specs.Verdicts.{Verdict, unless, then, first-fault, malformed}
-use Rattle.source.proofs.Faults.{first-fault-none, first-fault-some}
+use Rattle.source.proofs.Faults.{first-fault-none, first-fault-some, no-some}
+use Rattle.source.proofs.Numbered.{at-rows-by}
 use Rattle.text.specs.Steps.{formed}
 use Rattle.text.specs.Table.{WellFormed}
 use Rattle.text.proofs.Forms.{formed-decides}
 use Rattle.columns.specs.Offsets.{Lists, cut, enough, offset, part, place-of, row-at, row-fault, verdict}
-use Rattle.columns.specs.Meaning.{Enough, OffsetsHold, run, RowHolds, RowsHold, Opens, Refused, Says}
-
-no-some : {X : Type 0} {P : Type 0} (x : X) → None ≡ Some x → P
-no-some x e = let z : _≡_ {A = ℕ} 0 1 = cc in absurd (omega arith)
+use Rattle.columns.specs.Meaning.{Enough, OffsetsHold, run, RowHolds, RowsHold, Opens, Reads, Refused, Says}
 
 -- the lists
-covers-decides : (v : Option (List ℕ)) (n : ℕ) → Decides (covers v n) (Cases v (Unit {0}) (λ bytes. bitmap-bytes n ≤ length bytes))
-covers-decides None n = (λ _. tt, λ _. refl)
-covers-decides (Some bytes) n = (leb-true _ _, le-leb _ _)
-
 enough-decides : (n : ℕ) (m : Lists) → Decides (enough n m) (Enough n m)
 unfolding enough
 enough-decides n m =
@@ -136,9 +131,13 @@ module _ (n : ℕ) (m : Lists) where
   rows-hold : (k : ℕ) → first-fault (row-fault m) k ≡ None → RowsHold m k
   rows-hold k h i l = row-holds m i (first-fault-none (row-fault m) k i h l)
 
+  reads : RowsHold m n → Reads n m
+  reads h i l =
+      at-rows-by (row-at m) n i None l ∙ ap (λ p. cond (valid (m .validity) i) p None) (part-holds m i (λ j k. h j (omega arith)) (h i l .0))
+
   says-by : (b : Bool) (v : Verdict) → enough n m ≡ b → first-fault (row-fault m) n ≡ v → Says n m (then (unless b ShortList) v)
   says-by false v e f = λ a. false≢true (sym e ∙ enough-decides n m .1 a)
-  says-by true None e f = (enough-decides n m .0 e, rows-hold n f)
+  says-by true None e f = ((enough-decides n m .0 e, rows-hold n f), reads (rows-hold n f))
   says-by true (Some d) e f =
       let k = first-fault-some (row-fault m) n d f in
       refused-by m (k .0) n d _ _ (enough-decides n m .0 e) (k .1 .0) (rows-hold (k .0) (k .1 .2)) refl refl (sym (row-fault-by m (k .0) _ _ refl refl) ∙ k .1 .1)

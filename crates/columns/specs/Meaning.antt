@@ -1,24 +1,23 @@
 -- When rows may be opened, and when each fault comes, in the layout's words.
 use mathlib.Core.Path.{_≡_}
-use mathlib.Core.Bool.{true}
+use mathlib.Core.Bool.{true, cond}
 use mathlib.Core.List.{List}
 use Prim.Native.Nat.{ℕ, _+_, _<_, _≤_}
 use lib.IntN.{pos, natAbs}
-use lib.ListN.{length}
+use lib.ListN.{length, getD}
 use lib.Signed.{_≤ℤ_}
-use Rattle.std.specs.Options.{Cases}
 use Rattle.std.specs.shelf.Lists.{between}
 use Rattle.std.specs.declared.option.Option.the-variants.{Some, None}
 use Rattle.fault.specs.declared.Fault.{Fault}
 use Rattle.fault.specs.declared.Fault.the-variants.{ShortList, BufferEnd, Offset, View, Malformed, Window, OperandRows, ZeroPosition, RowsFull, TooLong, EndsFull, BytesFull}
-use Rattle.bitmap.specs.Validity.{bitmap-bytes, valid}
+use Rattle.bitmap.specs.Validity.{Covers, valid}
 use Rattle.source.specs.Verdicts.{Verdict}
 use Rattle.text.specs.Table.{WellFormed}
-use Rattle.columns.specs.Offsets.{Lists, offset}
+use Rattle.columns.specs.Offsets.{Lists, offset, rows-in}
 
 -- n rows take n + 1 offsets, no rows take none
 abbrev pub Enough : ℕ → Lists → Type 0
-Enough n m = (0 < n → n + 1 ≤ length (m .offsets)) × Cases (m .validity) (Unit {0}) (λ bytes. bitmap-bytes n ≤ length bytes)
+Enough n m = (0 < n → n + 1 ≤ length (m .offsets)) × Covers (m .validity) n
 
 -- offset 0 is not negative, offset i + 1 is not below offset i, and none is past the value bytes
 abbrev pub OffsetsHold : Lists → ℕ → Type 0
@@ -41,6 +40,10 @@ RowsHold m n = (i : ℕ) → i < n → RowHolds m i
 abbrev pub Opens : ℕ → Lists → Type 0
 Opens n m = Enough n m × RowsHold m n
 
+-- the rows then read as they run
+abbrev pub Reads : ℕ → Lists → Type 0
+Reads n m = (i : ℕ) → i < n → getD (rows-in n m) i None ≡ cond (valid (m .validity) i) (Some (run m i)) None
+
 -- the fault comes: where a list is too short, or at the lowest row that does not hold
 abbrev pub Refused : ℕ → Lists → Fault → Type 0
 Refused n m ShortList = Enough n m → ⊥
@@ -58,5 +61,5 @@ Refused n m (BytesFull i) = ⊥
 
 -- what a verdict says
 abbrev pub Says : ℕ → Lists → Verdict → Type 0
-Says n m None = Opens n m
+Says n m None = Opens n m × Reads n m
 Says n m (Some e) = Refused n m e

@@ -2,7 +2,7 @@
 ghost use mathlib.Core.Bool.{true};
 ghost use mathlib.Core.List.{[]};
 ghost use mathlib.Core.Path.{_≡_};
-ghost use Rattle.columns.specs.Meaning.{Opens, Refused};
+ghost use Rattle.columns.specs.Meaning.{Opens, Reads, Refused};
 ghost use Rattle.columns.specs.Offsets.{rows-in, verdict};
 ghost use Rattle.columns.specs.Reading.{itself, lists};
 ghost use Rattle.source.specs.Verdicts.{accepts, fault-of};
@@ -38,7 +38,7 @@ impl<'a> OffsetColumn64<'a> {
     /// Opens rows over lent memory, in place of those that the column had; after a fault it is as it was.
     pub fn open(&mut self, rows: usize, lent: Lent<'a, i64>) -> Result<(), Fault>
         ensures answer { λ r. ⌜ fault-of r ≡ verdict rows (lists itself (lent .entry)) ⌝ }
-        ensures meaning { λ r. ⌜ Cases r (λ _. Opens rows (lists itself (lent .entry))) (λ e. Refused rows (lists itself (lent .entry)) e) ⌝ }
+        ensures meaning { λ r. ⌜ Cases r (λ _. Opens rows (lists itself (lent .entry)) × Reads rows (lists itself (lent .entry))) (λ e. Refused rows (lists itself (lent .entry)) e) ⌝ }
         ensures column { λ r. ⌜ Cases r (λ _. (now (self .exit) .rows ≡ rows) × (now (self .exit) .lent ≡ lent .entry)) (λ _. now (self .exit) ≡ now (self .entry)) ⌝ }
     {
         if let Some(fault) = lent.fault(rows) {

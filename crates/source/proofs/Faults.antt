@@ -6,7 +6,7 @@ use mathlib.Core.Logic.{_⊎_, inl, inr}
 use Prim.Native.Nat.{ℕ, zero, suc, _+_, _-_, _<_, _≤_}
 use native.Mathlib.Numerals.{add-one}
 use native.Mathlib.Omega.{arith}
-use Rattle.std.proofs.shelf.Tests.{cases-eq}
+use Rattle.std.proofs.shelf.Tests.{cases-eq, false≢true}
 use Rattle.std.specs.declared.option.Option.the-variants.{Some, None}
 use Rattle.fault.specs.declared.Fault.{Fault}
 use Rattle.source.specs.Rows.{Row}
@@ -29,18 +29,22 @@ first-fault-found f e i n l h g =
     let z : (n - (i + 1)) + (i + 1) ≡ n = omega arith in
     ap (first-fault f) (sym z) ∙ stays f e (i + 1) (n - (i + 1)) (first-fault-more f i h ∙ g)
 
+-- none is not some
+pub no-some : {X P : Type 0} (x : X) → None ≡ Some x → P
+no-some x e = let z : _≡_ {A = ℕ} 0 1 = cc in absurd (omega arith)
+
 -- no fault at all
 pub none-from-accepts : (v : Verdict) → accepts v ≡ true → v ≡ None
 none-from-accepts None h = refl
-none-from-accepts (Some e) h = let z : _≡_ {A = ℕ} 0 1 = cc in absurd (omega arith)
+none-from-accepts (Some e) h = absurd (false≢true h)
 
 pub true-from-unless : (b : Bool) (e : Fault) → unless b e ≡ None → b ≡ true
 true-from-unless true e h = refl
-true-from-unless false e h = let z : _≡_ {A = ℕ} 0 1 = cc in absurd (omega arith)
+true-from-unless false e h = no-some e (sym h)
 
 pub then-none : (u v : Verdict) → then u v ≡ None → (u ≡ None) × (v ≡ None)
 then-none None v h = (refl, h)
-then-none (Some e) v h = let z : _≡_ {A = ℕ} 0 1 = cc in absurd (omega arith)
+then-none (Some e) v h = no-some e (sym h)
 
 pub first-fault-none : (f : ℕ → Verdict) (n k : ℕ) → first-fault f n ≡ None → k < n → f k ≡ None
 first-fault-none f zero k h l = absurd (omega arith)
@@ -57,5 +61,5 @@ first-fault-step f n e (Some d) g h r = let k = r (g ∙ h) in (k .0, (omega (ar
 
 -- a fault that is found is the first
 pub first-fault-some : (f : ℕ → Verdict) (n : ℕ) (e : Fault) → first-fault f n ≡ Some e → (k : ℕ) × ((k < n) × (f k ≡ Some e) × (first-fault f k ≡ None))
-first-fault-some f zero e h = let z : _≡_ {A = ℕ} 0 1 = cc in absurd (omega arith)
+first-fault-some f zero e h = no-some e h
 first-fault-some f (suc n) e h = first-fault-step f n e (first-fault f n) refl h (λ g. first-fault-some f n e g)

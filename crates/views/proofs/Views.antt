@@ -8,7 +8,7 @@ use lib.Dec.{leb, ltb, eqb}
 use lib.ListN.{length, getD}
 use Rattle.std.proofs.shelf.Equals.{sameBytes-decides}
 use Rattle.std.proofs.shelf.Lists.{length-take, length-drop}
-use Rattle.std.proofs.shelf.Tests.{and-parts, and-from, and-left, and-right, eq-eqb, ne-eqb, le-leb, lt-leb, leb-true, ltb-true}
+use Rattle.std.proofs.shelf.Tests.{and-parts, and-from, and-left, and-right, eqb-true, eq-eqb, ne-eqb, le-leb, lt-leb, leb-true, ltb-true}
 use Rattle.std.proofs.shelf.Ways.{same-from-decides}
 use Rattle.std.specs.Orderings.{Decides}
 use Rattle.std.specs.shelf.Text.{sameBytes}
@@ -26,6 +26,11 @@ pub one-not-blank : (xs : List ℕ) (k : ℕ) → k < length xs → (getD xs k 0
 one-not-blank [] k l h = absurd (omega arith)
 one-not-blank (x ∷ xs) zero l h = and-left (eqb x 0) (blank xs) (ne-eqb x 0 h)
 one-not-blank (x ∷ xs) (suc k) l h = and-right (eqb x 0) (blank xs) (one-not-blank xs k (omega arith) h)
+
+pub zero-from-blank : (xs : List ℕ) (k : ℕ) → blank xs ≡ true → k < length xs → getD xs k 0 ≡ 0
+zero-from-blank [] k h l = absurd (omega arith)
+zero-from-blank (x ∷ xs) zero h l = eqb-true x 0 (and-parts _ _ h .0)
+zero-from-blank (x ∷ xs) (suc k) h l = zero-from-blank xs k (and-parts _ _ h .1) (omega arith)
 
 -- where no end has a fault
 pub ends-hold : (d : Data) (b : ℕ) → ends-fault d ≡ None → b < length (d .ends) → (buffer-start (d .ends) b ≤ buffer-end (d .ends) b) × (buffer-end (d .ends) b ≤ length (d .bytes))

@@ -8,6 +8,7 @@ ghost use Rattle.std.specs.declared.option.Option.the-variants.{None};
 ghost use Rattle.std.specs.Options.{mapped};
 ghost use Rattle.std.specs.Slices.{found};
 ghost use Rattle.views.specs.Layout.{LiesIn, places-in, rows-in, text, view};
+ghost use Rattle.views.specs.Meaning.{Says};
 ghost use Rattle.views.specs.Reading.{held, lists};
 ghost use Rattle.views.specs.Verdict.{ends-fault, enough, row-fault, verdict};
 use crate::bytes::word;
@@ -72,7 +73,8 @@ impl<'a> Lent<'a> {
 
     /// The fault that opening the rows meets first.
     pub(crate) fn fault(&self, rows: usize) -> Option<Fault>
-        ensures { λ r. ⌜ r ≡ verdict rows (lists (now (self .entry))) ⌝ }
+        ensures answer { λ r. ⌜ r ≡ verdict rows (lists (now (self .entry))) ⌝ }
+        ensures meaning { λ r. ⌜ Says rows (lists (now (self .entry))) r ⌝ }
     {
         if !self.is_enough(rows) {
             return Some(Fault::ShortList);

@@ -8,6 +8,7 @@ ghost use Rattle.std.specs.declared.option.Option.the-variants.{None};
 ghost use Rattle.std.specs.Results.{Cases};
 ghost use Rattle.std.specs.Slices.{found};
 ghost use Rattle.views.specs.Layout.{LiesIn, places-in, rows-in, text, view};
+ghost use Rattle.views.specs.Meaning.{Opens, Refused};
 ghost use Rattle.views.specs.Reading.{held, lists};
 ghost use Rattle.views.specs.Verdict.{verdict};
 use crate::lent::Buffers;
@@ -44,6 +45,7 @@ impl<'a> ViewColumn<'a> {
     /// Opens rows over lent memory, in place of those that the column had; after a fault it is as it was.
     pub fn open(&mut self, rows: usize, lent: Lent<'a>) -> Result<(), Fault>
         ensures answer { λ r. ⌜ fault-of r ≡ verdict rows (lists (lent .entry)) ⌝ }
+        ensures meaning { λ r. ⌜ Cases r (λ _. Opens rows (lists (lent .entry))) (λ e. Refused rows (lists (lent .entry)) e) ⌝ }
         ensures column { λ r. ⌜ Cases r (λ _. (now (self .exit) .rows ≡ rows) × (now (self .exit) .lent ≡ lent .entry)) (λ _. now (self .exit) ≡ now (self .entry)) ⌝ }
     {
         if let Some(fault) = lent.fault(rows) {
