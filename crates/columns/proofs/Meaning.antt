@@ -1,18 +1,18 @@
 -- The verdict says when rows may be opened, and when each fault comes.
 use mathlib.Core.Path.{_≡_, refl, sym, ap, subst, _∙_}
-use mathlib.Core.Bool.{Bool, true, false, cond, _&&_, _||_}
+use mathlib.Core.Bool.{Bool, true, false, cond, _&&_}
 use mathlib.Core.List.{List}
 use mathlib.Core.Logic.{_⊎_, inl, inr}
 use Prim.Native.Nat.{ℕ, zero, suc, _+_, _<_, _≤_}
 use native.Mathlib.Numerals.{add-one}
 use native.Mathlib.Omega.{arith}
-use lib.Dec.{leb, ltb, eqb}
+use lib.Dec.{leb}
 use lib.IntN.{ℤ, pos, negsuc, natAbs}
-use lib.ListN.{length, getD}
+use lib.ListN.{length}
 use lib.Signed.{_≤ℤ_}
 use Rattle.std.proofs.shelf.Signed.{ints}
 use Rattle.std.proofs.shelf.Tests.{cases-bool, and-parts, leb-true, le-leb, and-from, false≢true, cases-lt}
-use Rattle.std.proofs.shelf.Ways.{tells, decides-and, decides-like, decides-or, decides-eqb, decides-ltb}
+use Rattle.std.proofs.shelf.Ways.{decides-and, decides-like, decides-or, decides-eqb, decides-ltb}
 use Rattle.std.specs.Options.{isSome}
 use Rattle.std.specs.Orderings.{Decides}
 use Rattle.std.specs.shelf.Lists.{between}
@@ -26,10 +26,10 @@ use Rattle.source.specs.Verdicts.{Verdict, unless, then, first-fault, malformed
 use Rattle.source.proofs.Faults.{first-fault-none, first-fault-some, no-some}
 use Rattle.source.proofs.Numbered.{at-rows-by}
 use Rattle.text.specs.Steps.{formed}
-use Rattle.text.specs.Table.{WellFormed}
 use Rattle.text.proofs.Forms.{formed-decides}
 use Rattle.columns.specs.Offsets.{Lists, cut, enough, offset, part, place-of, row-at, row-fault, verdict}
-use Rattle.columns.specs.Meaning.{Enough, OffsetsHold, run, RowHolds, RowsHold, Opens, Reads, Refused, Says}
+use Rattle.columns.proofs.Opened.{row-fault-by}
+use Rattle.columns.specs.Meaning.{Enough, OffsetsHold, run, RowHolds, RowsHold, Reads, Refused, Says}
 
 -- the lists
 enough-decides : (n : ℕ) (m : Lists) → Decides (enough n m) (Enough n m)
@@ -87,20 +87,11 @@ part-some m i t e =
     let s : offset m i ≤ℤ pos (length (m .values)) = omega (arith, ints) in
     ((λ z. (subst (λ k. pos 0 ≤ℤ offset m k) z p, subst (λ k. offset m k ≤ℤ pos (length (m .values))) z s), q, r), c .3)
 
--- a row's fault, by its bytes and whether it is valid
-fault-by : ℕ → Bool → Option (List ℕ) → Verdict
-fault-by i v p = then (unless (isSome p) (Offset i)) (malformed i (cond v p None))
-
-row-fault-by : (m : Lists) (i : ℕ) (v : Bool) (p : Option (List ℕ)) → valid (m .validity) i ≡ v → part m i ≡ p → row-fault m i ≡ fault-by i v p
-unfolding row-fault fault-by
-row-fault-by m i v p e f = ap (λ b. fault-by i b (part m i)) e ∙ ap (fault-by i v) f
-
 module _ (m : Lists) (i : ℕ) where
   formed-run : (t : List ℕ) (b : Bool) → part m i ≡ Some t → formed t ≡ b → formed (run m i) ≡ b
   formed-run t b e f = ap formed (sym (part-some m i t e .1)) ∙ f
 
-  holds-by : (v : Bool) (p : Option (List ℕ)) → valid (m .validity) i ≡ v → part m i ≡ p → fault-by i v p ≡ None → RowHolds m i
-  unfolding fault-by
+  holds-by : (v : Bool) (p : Option (List ℕ)) → valid (m .validity) i ≡ v → part m i ≡ p → then (unless (isSome p) (Offset i)) (malformed i (cond v p None)) ≡ None → RowHolds m i
   holds-by v None e f h = no-some _ (sym h)
   holds-by false (Some t) e f h = (part-some m i t f .0, λ g. absurd (false≢true (sym e ∙ g)))
   holds-by true (Some t) e f h =
@@ -112,8 +103,7 @@ module _ (m : Lists) (i : ℕ) where
   row-holds : row-fault m i ≡ None → RowHolds m i
   row-holds h = holds-by (valid (m .validity) i) (part m i) refl refl (sym (row-fault-by m i _ _ refl refl) ∙ h)
 
-  refused-by : (n : ℕ) (e : Fault) (v : Bool) (p : Option (List ℕ)) → Enough n m → i < n → RowsHold m i → valid (m .validity) i ≡ v → part m i ≡ p → fault-by i v p ≡ Some e → Refused n m e
-  unfolding fault-by
+  refused-by : (n : ℕ) (e : Fault) (v : Bool) (p : Option (List ℕ)) → Enough n m → i < n → RowsHold m i → valid (m .validity) i ≡ v → part m i ≡ p → then (unless (isSome p) (Offset i)) (malformed i (cond v p None)) ≡ Some e → Refused n m e
   refused-by n e v None a l h x f g =
       let s : Offset i ≡ e = cc in
       subst (Refused n m) s (a, l, h, λ o. no-some _ (sym f ∙ part-holds m i h o))

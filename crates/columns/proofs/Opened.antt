@@ -1,14 +1,15 @@
 -- What is known of rows that may be opened.
-use mathlib.Core.Path.{_≡_, refl, sym, ap, _∙_}
-use mathlib.Core.Bool.{Bool, true, false, cond, _||_, _&&_}
+use mathlib.Core.Path.{_≡_, ap, _∙_}
+use mathlib.Core.Bool.{Bool, true, cond, _||_}
 use mathlib.Core.List.{List}
-use Prim.Native.Nat.{ℕ, _+_, _<_, _≤_}
+use Prim.Native.Nat.{ℕ, _+_, _<_}
 use native.Mathlib.Omega.{arith}
 use lib.Dec.{eqb, ltb}
 use lib.ListN.{length}
 use Rattle.std.proofs.shelf.Tests.{and-parts, or-cases, ltb-true, eqb-true}
 use mathlib.Core.Logic.{inl, inr}
 use Rattle.std.specs.Options.{isSome}
+use Rattle.std.specs.declared.option.Option.{Option}
 use Rattle.std.specs.declared.option.Option.the-variants.{Some, None}
 use Rattle.fault.specs.declared.Fault.the-variants.{ShortList, Offset}
 use Rattle.bitmap.specs.Validity.{valid}
@@ -26,6 +27,12 @@ room-from-enough n m i h l =
       | inl e ↦ let z = eqb-true n 0 e in absurd (omega arith)
       | inr e ↦ let z = ltb-true n (length (m .offsets)) e in omega arith
     ]
+
+-- a row's fault, by whether it is valid and its bytes
+pub row-fault-by : (m : Lists) (i : ℕ) (v : Bool) (p : Option (List ℕ)) → valid (m .validity) i ≡ v → part m i ≡ p → row-fault m i ≡ then (unless (isSome p) (Offset i)) (malformed i (cond v p None))
+unfolding row-fault
+row-fault-by m i v p e f =
+    ap (λ b. then (unless (isSome (part m i)) (Offset i)) (malformed i (cond b (part m i) None))) e ∙ ap (λ q. then (unless (isSome q) (Offset i)) (malformed i (cond v q None))) f
 
 module _ (n : ℕ) (m : Lists) (sound : accepts (verdict n m) ≡ true) where
   parts : (unless (enough n m) ShortList ≡ None) × (first-fault (row-fault m) n ≡ None)

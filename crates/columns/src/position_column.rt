@@ -4,7 +4,6 @@ ghost use mathlib.Core.List.{[]};
 ghost use mathlib.Core.Path.{_≡_};
 ghost use Rattle.columns.specs.Positions.{enough-numbers, numbers, positions-in, positions-verdict};
 ghost use Rattle.source.specs.Verdicts.{accepts, fault-of};
-ghost use Rattle.std.specs.Options.{mapped};
 ghost use Rattle.std.specs.Results.{Cases};
 use bitmap::covers;
 use bitmap::is_valid;

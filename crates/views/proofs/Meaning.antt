@@ -1,31 +1,30 @@
 -- The verdict says when rows may be opened, and when each fault comes.
 use mathlib.Core.Path.{_≡_, refl, sym, ap, subst, _∙_}
-use mathlib.Core.Bool.{Bool, true, false, cond, _&&_}
+use mathlib.Core.Bool.{Bool, true, false, cond}
 use mathlib.Core.List.{List}
-use mathlib.Core.Logic.{_⊎_, inl, inr}
-use Prim.Native.Nat.{ℕ, zero, suc, _+_, _-_, _*_, _<_, _≤_}
+use mathlib.Core.Logic.{inl, inr}
+use Prim.Native.Nat.{ℕ, _+_, _-_, _*_, _<_, _≤_}
 use native.Mathlib.Omega.{arith}
-use lib.Dec.{leb, ltb}
-use lib.ListN.{length, getD, drop, take}
+use lib.Dec.{leb}
+use lib.ListN.{length, getD, drop}
 use Rattle.std.proofs.shelf.Equals.{sameBytes-decides}
-use Rattle.std.proofs.shelf.Lists.{getD-take, getD-drop, getD-past, length-take, length-drop}
-use Rattle.std.proofs.shelf.Tests.{and-from, and-parts, cases-bool, cases-lt, false≢true, le-leb, leb-true}
+use Rattle.std.proofs.shelf.Lists.{getD-take, getD-drop, getD-past, length-take}
+use Rattle.std.proofs.shelf.Tests.{and-from, cases-bool, cases-lt, false≢true, le-leb, leb-true}
 use Rattle.std.proofs.shelf.Ways.{decides-and, decides-ltb}
 use Rattle.std.specs.Orderings.{Decides}
-use Rattle.std.specs.declared.option.Option.{Option}
 use Rattle.std.specs.declared.option.Option.the-variants.{Some, None}
 use Rattle.fault.specs.declared.Fault.{Fault}
 use Rattle.fault.specs.declared.Fault.the-variants.{ShortList, BufferEnd, View, Malformed}
 use Rattle.bitmap.specs.Validity.{valid}
 use Rattle.bitmap.proofs.Covering.{covers-decides}
-use Rattle.source.specs.Verdicts.{Verdict, unless, then, first-fault, malformed}
+use Rattle.source.specs.Verdicts.{Verdict, unless, then, first-fault}
 use Rattle.source.proofs.Faults.{first-fault-none, first-fault-some, no-some}
 use Rattle.text.specs.Steps.{formed}
-use Rattle.text.specs.Table.{WellFormed}
 use Rattle.text.proofs.Forms.{formed-decides}
-use Rattle.views.specs.Layout.{Data, Lists, blank, buffer, buffer-end, buffer-start, fits, in-buffer, long-rule, offset, part, place, row-at, short-rule, size, text, view}
+use Rattle.views.specs.Layout.{Data, Lists, blank, buffer, buffer-end, buffer-start, fits, long-rule, offset, part, place, short-rule, size, text, view}
 use Rattle.views.specs.Verdict.{end-fault, end-holds, ends-fault, enough, row-fault, verdict}
-use Rattle.views.specs.Meaning.{Enough, EndsHold, ShortHolds, LongHolds, ViewHolds, RowHolds, RowsHold, Opens, Reaches, Refused, Says}
+use Rattle.views.specs.Meaning.{Enough, EndsHold, ShortHolds, LongHolds, ViewHolds, RowHolds, RowsHold, Refused, Says}
+use Rattle.views.proofs.Opened.{row-fault-by}
 use Rattle.views.proofs.Views.{all-blank, zero-from-blank, ends-hold, fits-not, fits-short, fits-long}
 
 decides-leb : (a b : ℕ) → Decides (leb a b) (a ≤ b)
@@ -94,30 +93,17 @@ view-decides d v =
           ]
     ]
 
--- a row's fault, by whether it is valid, whether its view keeps the rules, and whether its text is well-formed
-fault-by : ℕ → Bool → Bool → Bool → Verdict
-fault-by i v f w = then (cond v (unless f (View i)) None) (cond v (unless w (Malformed i)) None)
-
-row-fault-by : (m : Lists) (i : ℕ) (v : Bool) → valid (m .validity) i ≡ v → row-fault m i ≡ fault-by i v (fits (m .buffers) (view m i)) (formed (text (m .buffers) (view m i)))
-unfolding row-fault fault-by
-row-fault-by m i true e =
-    ap (λ b. then (cond b (unless (fits (m .buffers) (view m i)) (View i)) None) (malformed i (cond b (Some (text (m .buffers) (view m i))) None))) e
-row-fault-by m i false e =
-    ap (λ b. then (cond b (unless (fits (m .buffers) (view m i)) (View i)) None) (malformed i (cond b (Some (text (m .buffers) (view m i))) None))) e
-
 module _ (m : Lists) (i : ℕ) where
-  holds-by : (v f w : Bool) → valid (m .validity) i ≡ v → fits (m .buffers) (view m i) ≡ f → formed (text (m .buffers) (view m i)) ≡ w → fault-by i v f w ≡ None → RowHolds m i
-  unfolding fault-by
+  holds-by : (v f w : Bool) → valid (m .validity) i ≡ v → fits (m .buffers) (view m i) ≡ f → formed (text (m .buffers) (view m i)) ≡ w → then (cond v (unless f (View i)) None) (cond v (unless w (Malformed i)) None) ≡ None → RowHolds m i
   holds-by false f w x y z h = λ g. absurd (false≢true (sym x ∙ g))
   holds-by true false w x y z h = no-some _ (sym h)
   holds-by true true false x y z h = no-some _ (sym h)
   holds-by true true true x y z h = λ g. (view-decides (m .buffers) (view m i) .0 y, formed-decides (text (m .buffers) (view m i)) .0 z)
 
   row-holds : row-fault m i ≡ None → RowHolds m i
-  row-holds h = holds-by (valid (m .validity) i) _ _ refl refl refl (sym (row-fault-by m i _ refl) ∙ h)
+  row-holds h = holds-by (valid (m .validity) i) _ _ refl refl refl (sym (row-fault-by m i _ _ _ refl refl refl) ∙ h)
 
-  refused-by : (n : ℕ) (e : Fault) (v f w : Bool) → Enough n m → EndsHold (m .buffers) → i < n → RowsHold m i → valid (m .validity) i ≡ v → fits (m .buffers) (view m i) ≡ f → formed (text (m .buffers) (view m i)) ≡ w → fault-by i v f w ≡ Some e → Refused n m e
-  unfolding fault-by
+  refused-by : (n : ℕ) (e : Fault) (v f w : Bool) → Enough n m → EndsHold (m .buffers) → i < n → RowsHold m i → valid (m .validity) i ≡ v → fits (m .buffers) (view m i) ≡ f → formed (text (m .buffers) (view m i)) ≡ w → then (cond v (unless f (View i)) None) (cond v (unless w (Malformed i)) None) ≡ Some e → Refused n m e
   refused-by n e false f w a b l h x y z g = no-some e g
   refused-by n e true false w a b l h x y z g =
       let s : View i ≡ e = cc in
@@ -139,7 +125,7 @@ module _ (n : ℕ) (m : Lists) where
   says-by true None None x y z = (enough-decides n m .0 x, λ b l. ends-hold (m .buffers) b y l, rows-hold n z)
   says-by true None (Some d) x y z =
       let k = first-fault-some (row-fault m) n d z in
-      refused-by m (k .0) n d _ _ _ (enough-decides n m .0 x) (λ b l. ends-hold (m .buffers) b y l) (k .1 .0) (rows-hold (k .0) (k .1 .2)) refl refl refl (sym (row-fault-by m (k .0) _ refl) ∙ k .1 .1)
+      refused-by m (k .0) n d _ _ _ (enough-decides n m .0 x) (λ b l. ends-hold (m .buffers) b y l) (k .1 .0) (rows-hold (k .0) (k .1 .2)) refl refl refl (sym (row-fault-by m (k .0) _ _ _ refl refl refl) ∙ k .1 .1)
 
   pub says : (v : Verdict) → v ≡ verdict n m → Says n m v
   says v e = subst (Says n m) (sym e) (says-by (enough n m) (ends-fault (m .buffers)) (first-fault (row-fault m) n) refl refl refl)

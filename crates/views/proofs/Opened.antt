@@ -1,15 +1,27 @@
 -- What is known of rows that may be opened.
 use mathlib.Core.Path.{_≡_, refl, sym, ap, _∙_}
-use mathlib.Core.Bool.{Bool, true, cond}
+use mathlib.Core.Bool.{Bool, true, false, cond}
+use mathlib.Core.List.{List}
 use Prim.Native.Nat.{ℕ, _<_}
 use Rattle.std.specs.declared.option.Option.the-variants.{Some, None}
-use Rattle.fault.specs.declared.Fault.the-variants.{ShortList, View}
+use Rattle.fault.specs.declared.Fault.the-variants.{ShortList, View, Malformed}
 use Rattle.bitmap.specs.Validity.{valid}
 use Rattle.source.specs.Verdicts.{unless, then, first-fault, malformed, accepts}
 use Rattle.source.proofs.Faults.{none-from-accepts, true-from-unless, then-none, first-fault-none, formed-from-none}
 use Rattle.text.specs.Steps.{formed}
 use Rattle.views.specs.Layout.{Lists, fits, row-at, text, view}
 use Rattle.views.specs.Verdict.{enough, ends-fault, row-fault, verdict}
+
+malformed-by : (i : ℕ) (v w : Bool) (t : List ℕ) → formed t ≡ w → malformed i (cond v (Some t) None) ≡ cond v (unless w (Malformed i)) None
+malformed-by i true w t e = ap (λ b. unless b (Malformed i)) e
+malformed-by i false w t e = refl
+
+-- a row's fault, by whether it is valid, whether its view keeps the rules, and whether its text is well-formed
+pub row-fault-by : (m : Lists) (i : ℕ) (v f w : Bool) → valid (m .validity) i ≡ v → fits (m .buffers) (view m i) ≡ f → formed (text (m .buffers) (view m i)) ≡ w → row-fault m i ≡ then (cond v (unless f (View i)) None) (cond v (unless w (Malformed i)) None)
+unfolding row-fault
+row-fault-by m i v f w x y z =
+    ap (λ b. then (cond b (unless (fits (m .buffers) (view m i)) (View i)) None) (malformed i (cond b (Some (text (m .buffers) (view m i))) None))) x
+    ∙ (ap (λ b. then (cond v (unless b (View i)) None) (malformed i (cond v (Some (text (m .buffers) (view m i))) None))) y ∙ ap (then (cond v (unless f (View i)) None)) (malformed-by i v w (text (m .buffers) (view m i)) z))
 
 module _ (n : ℕ) (m : Lists) (sound : accepts (verdict n m) ≡ true) where
   parts : (unless (enough n m) ShortList ≡ None) × (then (ends-fault (m .buffers)) (first-fault (row-fault m) n) ≡ None)

@@ -1,6 +1,6 @@
 -- Ends, and the rules of a view by its length.
 use mathlib.Core.Path.{_≡_, refl, sym, ap, _∙_}
-use mathlib.Core.Bool.{Bool, true, false, cond, _&&_}
+use mathlib.Core.Bool.{Bool, true, false, _&&_}
 use mathlib.Core.List.{List, [], _∷_}
 use Prim.Native.Nat.{ℕ, zero, suc, _+_, _-_, _*_, _<_, _≤_}
 use native.Mathlib.Omega.{arith}
@@ -12,7 +12,7 @@ use Rattle.std.proofs.shelf.Tests.{and-parts, and-from, and-left, and-right, eq
 use Rattle.std.proofs.shelf.Ways.{same-from-decides}
 use Rattle.std.specs.Orderings.{Decides}
 use Rattle.std.specs.shelf.Text.{sameBytes}
-use Rattle.std.specs.declared.option.Option.the-variants.{Some, None}
+use Rattle.std.specs.declared.option.Option.the-variants.{None}
 use Rattle.source.proofs.Faults.{true-from-unless, first-fault-none}
 use Rattle.views.specs.Layout.{Data, Lists, LiesIn, fits, text, part, blank, short-rule, long-rule, buffer-start, buffer-end, in-buffer, buffer, place, size, offset}
 use Rattle.views.specs.Verdict.{enough, end-holds, end-fault, ends-fault}

@@ -1,4 +1,4 @@
-use mathlib.Core.Path.{_≡_, sym, ap, _∙_}
+use mathlib.Core.Path.{sym, ap, _∙_}
 use lib.IntN.{pos}
 use Rattle.std.proofs.shelf.Lists.{getD-map}
 use Rattle.columns.specs.Offsets.{place-of}

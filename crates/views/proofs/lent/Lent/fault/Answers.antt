@@ -1,7 +1,7 @@
 use mathlib.Core.Path.{_≡_, ap, _∙_}
 use Rattle.fault.specs.declared.Fault.the-variants.{ShortList}
 use Rattle.source.specs.Verdicts.{first-fault, then, unless}
-use Rattle.std.specs.declared.option.Option.the-variants.{Some, None}
+use Rattle.std.specs.declared.option.Option.the-variants.{Some}
 use Rattle.views.specs.Reading.{lists}
 use Rattle.views.specs.Verdict.{ends-fault, row-fault, verdict}
 use Rattle.views.proofs.Meaning.{says}

@@ -1,4 +1,4 @@
-use mathlib.Core.Path.{_≡_, sym, ap, _∙_}
+use mathlib.Core.Path.{sym, _∙_}
 use Rattle.source.proofs.Faults.{first-fault-more, first-fault-found}
 use Rattle.views.specs.Reading.{lists}
 use Rattle.views.specs.Verdict.{row-fault}
