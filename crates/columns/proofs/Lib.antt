@@ -1,0 +1,4 @@
+pub mod Opened
+pub mod Cutting
+pub mod Positions
+pub mod Meaning

@@ -1,0 +1,6 @@
+use mathlib.Core.Path.{sym}
+use Rattle.source.proofs.Numbered.{length-rows-by}
+use Rattle.columns.proofs.position_column.PositionColumnPositions.rows.Needs as need
+
+pub returns : need.returns
+returns c = sym (length-rows-by _ (c .args .self .now .rows))

@@ -1,0 +1,4 @@
+pub mod Offsets
+pub mod Positions
+pub mod Reading
+pub mod Meaning

@@ -1,0 +1,3 @@
+pub mod Views
+pub mod Opened
+pub mod Meaning

@@ -1,0 +1,3 @@
+//! Tests of view columns on examples.
+#[cfg(test)]
+mod rows;
