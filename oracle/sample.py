@@ -21,7 +21,7 @@ for i,l in enumerate(lines,1):
     if l.endswith(b"\r"): l=l[:-1]
     try: t=l.decode("utf-8")
     except UnicodeDecodeError:
-        out.append(f"line {i}: damaged: fault 5, layer column, row 0: not well-formed UTF-8"); cnt['d']+=1; continue
+        out.append(f"line {i}: damaged: fault 5, layer column, row {i-1}: not well-formed UTF-8"); cnt['d']+=1; continue
     f=[x.strip(" ") for x in t.split(";")]
     g=lambda k: f[k] if k<len(f) else ""
     if f[0]=="C":
