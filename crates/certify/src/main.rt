@@ -24,6 +24,8 @@ use views::view_column::ViewColumn;
 use views::view_column::ViewSource;
 
 mod offsets;
+#[cfg(test)]
+mod tests;
 mod validity;
 mod values;
 mod view_lists;
