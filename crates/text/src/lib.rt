@@ -11,6 +11,8 @@ use fault::Fault;
 
 pub mod checker;
 pub mod classes;
+#[cfg(test)]
+mod tests;
 
 /// Whether the bytes are a well-formed text.
 pub fn well_formed(bytes: &[u8]) -> bool
