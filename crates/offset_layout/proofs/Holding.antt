@@ -8,7 +8,7 @@ use lib.Bits.{bitOr}
 use lib.IntN.{ℤ, pos}
 use lib.ListN.{length, getD, take, drop, replicate, set}
 use lib.Seq.{paste}
-use Rattle.std.proofs.shelf.Lists.{length-push, length-replicate, length-set, length-take-le, take-append-le, drop-append-le}
+use Rattle.std.proofs.shelf.Lists.{length-push, length-replicate, length-set, length-take-le, take-all, take-append-le, drop-append-le}
 use Rattle.std.proofs.shelf.Edits.{length-paste}
 use Rattle.std.specs.declared.option.Option.the-variants.{Some, None}
 use Rattle.source.specs.Rows.{Row}
@@ -17,7 +17,7 @@ use Rattle.columns.specs.Offsets.{Lists, rows-in}
 use Rattle.offset_layout.specs.Layout.{zeros, bytes, used, values-of, offsets-of, bitmap-of, capacity, column, Holds}
 use Rattle.offset_layout.proofs.Bitmap.{bitmap-push, bitmap-null, bitmap-cut, bitmap-none}
 use Rattle.offset_layout.proofs.Forms.{formed-push, formed-take}
-use Rattle.offset_layout.proofs.Offsets.{offsets-push, offsets-cut, offsets-none}
+use Rattle.offset_layout.proofs.Offsets.{offsets-at, offset-low, offsets-push, offsets-cut, offsets-none}
 use Rattle.offset_layout.proofs.Reading.{rows-are, length-rows}
 use Rattle.offset_layout.proofs.Values.{used-push, used-cut, values-push, values-null, values-cut, values-none}
 use Rattle.offset_layout.proofs.Wiping.{wiped-all}
@@ -40,6 +40,10 @@ module _ {os : List ℤ} {vs bs : List ℕ} {rows : List Row} {n u : ℕ} (h : H
       let b = bitmap-push rows n c (length bs) t (omega arith) in
       record { count = length-push rows (Some t) ∙ ap (λ x. x + 1) c; size = up; room = omega arith; fits = omega arith; texts = formed-push rows (Some t) (h .texts) well; offsets-are = cc; values-are = cc; bitmap-is = cc }
 
+  -- the same, as the writes give it one after the other
+  pub push-text-to : (t b : List ℕ) → b ≡ t → formed b ≡ true → u + length t ≤ length vs → (os′ : List ℤ) (vs′ bs′ : List ℕ) → os′ ≡ set os (n + 1) (pos (u + length t)) → vs′ ≡ paste vs u b (length b) → bs′ ≡ set bs (n / 8) (bitOr (getD bs (n / 8) 0) (2 ^ (n % 8))) → Holds os′ vs′ bs′ (rows ++ Some t ∷ []) (n + 1) (u + length b)
+  push-text-to t b e well fits os′ vs′ bs′ eo ev eb = rw (eo, ev, eb, e) (push-text t (ap formed (sym e) ∙ well) fits)
+
   -- a null more
   pub push-null : Holds (set os (n + 1) (pos u)) vs bs (rows ++ None ∷ []) (n + 1) u
   push-null =
@@ -55,6 +59,9 @@ module _ {os : List ℤ} {vs bs : List ℕ} {rows : List Row} {n u : ℕ} (h : H
       let v = values-null (length vs) rows in
       let b = bitmap-null (length bs) rows in
       record { count = length-push rows None ∙ ap (λ x. x + 1) c; size = up; room = omega arith; fits = f; texts = formed-push rows None (h .texts) refl; offsets-are = cc; values-are = cc; bitmap-is = cc }
+
+  pub push-null-to : (os′ : List ℤ) → os′ ≡ set os (n + 1) (pos u) → Holds os′ vs bs (rows ++ None ∷ []) (n + 1) u
+  push-null-to os′ eo = rw eo push-null
 
 -- the rows before the n-th alone
 module _ {os : List ℤ} {vs bs : List ℕ} {rows : List Row} {m u : ℕ} (h : Holds os vs bs rows m u) (n k : ℕ) (lt : n < m) (ek : used (take n rows) ≡ k) where
@@ -94,6 +101,13 @@ module _ {os : List ℤ} {vs bs : List ℕ} {rows : List Row} {m u : ℕ} (h : H
   cut-to os′ vs′ bs′ bs″ eo ev eb eb′ =
       let e : m + 1 - (n + 1) ≡ m - n = omega arith in
       rw (eo, ev, eb′, eb, e) cut-rows
+
+-- where the last row ends
+pub last-offset : {os : List ℤ} {vs bs : List ℕ} {rows : List Row} {n u : ℕ} → Holds os vs bs rows n u → (d : ℤ) → n < length os → getD os n d ≡ pos u
+last-offset {os} {vs} {bs} {rows} {n} {u} h d l =
+    let c = h .count in
+    let all : take n rows ≡ rows = take-all n rows (omega arith) in
+    ap (λ o. getD o n d) (h .offsets-are) ∙ (offsets-at (length os) rows n d l ∙ ap pos (offset-low rows n (omega arith) ∙ (ap used all ∙ h .size)))
 
 -- memory that was cleared
 pub no-rows : (os : List ℤ) (vs bs : List ℕ) (l v b : ℕ) → length os ≡ l → length vs ≡ v → length bs ≡ b → Holds (paste os 0 (replicate (l - 0) (pos 0)) (l - 0)) (paste vs 0 (zeros (v - 0)) (v - 0)) (paste bs 0 (zeros (b - 0)) (b - 0)) [] 0 0
