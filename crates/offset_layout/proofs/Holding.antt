@@ -8,17 +8,15 @@ use lib.Bits.{bitOr}
 use lib.IntN.{ℤ, pos}
 use lib.ListN.{length, getD, take, drop, replicate, set}
 use lib.Seq.{paste}
-use Rattle.std.proofs.shelf.Lists.{length-push, length-replicate, length-set, length-take-le, take-all, take-append-le, drop-append-le}
+use Rattle.std.proofs.shelf.Lists.{length-push, length-replicate, length-set, length-take-le, take-all}
 use Rattle.std.proofs.shelf.Edits.{length-paste}
 use Rattle.std.specs.declared.option.Option.the-variants.{Some, None}
 use Rattle.source.specs.Rows.{Row}
 use Rattle.text.specs.Steps.{formed}
-use Rattle.columns.specs.Offsets.{Lists, rows-in}
-use Rattle.offset_layout.specs.Layout.{zeros, bytes, used, values-of, offsets-of, bitmap-of, capacity, column, Holds}
+use Rattle.offset_layout.specs.Layout.{zeros, bytes, used, values-of, offsets-of, bitmap-of, capacity, Holds}
 use Rattle.offset_layout.proofs.Bitmap.{bitmap-push, bitmap-null, bitmap-cut, bitmap-none}
 use Rattle.offset_layout.proofs.Forms.{formed-push, formed-take}
 use Rattle.offset_layout.proofs.Offsets.{offsets-at, offset-low, offsets-push, offsets-cut, offsets-none}
-use Rattle.offset_layout.proofs.Reading.{rows-are, length-rows}
 use Rattle.offset_layout.proofs.Values.{used-push, used-cut, values-push, values-null, values-cut, values-none}
 use Rattle.offset_layout.proofs.Wiping.{wiped-all}
 
@@ -123,15 +121,3 @@ no-rows os vs bs l v b eo ev eb =
     let nv = values-none v in
     let nb = bitmap-none b in
     record { count = refl; size = refl; room = omega arith; fits = omega arith; texts = refl; offsets-are = cc; values-are = cc; bitmap-is = cc }
-
--- a row more, seen from the rows that are kept
-module _ (m : Lists) {os′ : List ℤ} {vs′ bs′ : List ℕ} (n : ℕ) {u : ℕ} (row : Row) (h : Holds os′ vs′ bs′ (rows-in n m ++ row ∷ []) (n + 1) u) (k : ℕ) (kn : k ≤ n) where
-  pub kept-same : take k (rows-in (n + 1) (column os′ vs′ bs′)) ≡ take k (rows-in n m)
-  kept-same =
-      let l = length-rows m n in
-      ap (take k) (rows-are h) ∙ take-append-le k (rows-in n m) (row ∷ []) (omega arith)
-
-  pub pending-more : drop k (rows-in (n + 1) (column os′ vs′ bs′)) ≡ drop k (rows-in n m) ++ row ∷ []
-  pending-more =
-      let l = length-rows m n in
-      ap (drop k) (rows-are h) ∙ drop-append-le k (rows-in n m) (row ∷ []) (omega arith)

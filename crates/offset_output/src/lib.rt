@@ -3,6 +3,7 @@
 mod cells;
 mod extent;
 pub mod memory;
+mod store;
 pub mod width;
 pub mod width_32;
 pub mod width_64;

@@ -1,0 +1,25 @@
+use mathlib.Core.Path.{refl, ap}
+use mathlib.Core.List.{[], map}
+use native.Mathlib.Omega.{arith}
+use Rattle.offset_layout.specs.Layout.{used}
+use Rattle.offset_output.proofs.Stored.{all-are, sound, ordered, counted}
+use Rattle.offset_output.specs.Stores.{whole}
+use Rattle.offset_output.specs.declared.extent.Extent.{Extent}
+use Rattle.offset_output.specs.declared.store.Store.{Store}
+use Rattle.offset_output.proofs.store.Store.new.Needs as need
+
+pub returns : need.returns
+unfolding used
+returns g c =
+    let num = g .W·Width .number in
+    let h = c .clear .ensures .has in
+    let none : Extent = record { rows = 0; bytes = 0; nulls = 0 } in
+    let t : Store (g .W .Denot) = record { memory = c .clear .last .self; kept = none; held = none } in
+    record {
+      sound = sound num t [] h;
+      ordered = ordered num t [] h (omega arith) refl;
+      counted = counted num t [] h refl;
+      kept = refl;
+      pending = ap (map whole) (all-are num t [] h);
+      sizes = let z = c .clear .ensures .sizes in cc (z .0, z .1, z .2);
+    }
