@@ -95,3 +95,7 @@ module _ {W : Type 0} (number : W → ℤ) where
 
     pub opens-kept : verdict (s .kept .rows) (lists-of number (s .memory)) ≡ None
     opens-kept = ap (λ n. verdict n (lists-of number (s .memory))) (sym same-number) ∙ opens (has s h o k .holds)
+
+  -- all memory, by what is kept and pending; so equal sizes, kept and pending rows give equal memory
+  pub memory-held : (s : Store W) → Sound number s → Ordered number s → Counted number s → memory-of number (s .memory) ≡ image (sizes-of (s .memory)) (map row-of (kept-pieces number s ++ pending-pieces number s))
+  memory-held s h o k = memory-is s (all-rows number s) (has s h o k) ∙ ap (image (sizes-of (s .memory))) (sym (rows-joined (s .kept .rows) (all-rows number s)))

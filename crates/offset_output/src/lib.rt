@@ -3,6 +3,8 @@
 mod cells;
 mod extent;
 pub mod memory;
+pub mod offset_output_32;
+pub mod offset_output_64;
 mod store;
 pub mod width;
 pub mod width_32;

@@ -3,9 +3,9 @@ ghost use lib.ListN.{length};
 ghost use mathlib.Core.List.{[], _++_, map};
 ghost use mathlib.Core.Path.{_≡_};
 ghost use Rattle.columns.specs.Offsets.{rows-in, verdict};
-ghost use Rattle.offset_output.specs.Memories.{lists-of};
-ghost use Rattle.offset_output.specs.Stores.{Counted, Ordered, Sound, counted, image, kept-pieces, kept-rows, memory-of, pending-pieces, sizes-of, store-rule, whole};
-ghost use Rattle.output.specs.Rows.{grown, row-of};
+ghost use Rattle.offset_output.specs.Memories.{lists-of, rule-of};
+ghost use Rattle.offset_output.specs.Stores.{Counted, Ordered, Sound, counted, image, kept-pieces, memory-of, pending-pieces, sizes-of, store-rule, whole};
+ghost use Rattle.output.specs.Rows.{grown, nulls-in, row-of};
 ghost use Rattle.source.specs.Verdicts.{fault-of};
 ghost use Rattle.std.specs.declared.option.Option.the-variants.{None};
 ghost use Rattle.std.specs.Options.{mapped};
@@ -29,7 +29,9 @@ impl<'a, W: OffsetWidth> Store<'a, W> {
         ensures counted { λ r. ⌜ Counted (W·Width .number) r ⌝ }
         ensures kept { λ r. ⌜ kept-pieces (W·Width .number) r ≡ [] ⌝ }
         ensures pending { λ r. ⌜ pending-pieces (W·Width .number) r ≡ [] ⌝ }
+        ensures rule { λ r. ⌜ store-rule (W·Width .most) r ≡ rule-of (W·Width .most) (memory .entry) ⌝ }
         ensures sizes { λ r. ⌜ sizes-of (r .memory) ≡ sizes-of (memory .entry) ⌝ }
+        ensures memory { λ r. ⌜ memory-of (W·Width .number) (r .memory) ≡ image (sizes-of (memory .entry)) [] ⌝ }
     {
         let mut memory = memory;
         memory.clear();
@@ -108,10 +110,12 @@ impl<'a, W: OffsetWidth> Store<'a, W> {
         requires sound { ⌜ Sound (W·Width .number) self ⌝ }
         requires ordered { ⌜ Ordered (W·Width .number) self ⌝ }
         requires counted { ⌜ Counted (W·Width .number) self ⌝ }
-        ensures counts { λ r. ⌜ r .0 ≡ counted (kept-rows (W·Width .number) (self .entry)) ⌝ }
+        ensures reading { λ r. ⌜ rows-in (r .0 .rows) (lists-of (W·Width .number) (r .1)) ≡ map row-of (kept-pieces (W·Width .number) (self .entry)) ⌝ }
+        ensures rows { λ r. ⌜ r .0 .rows ≡ length (kept-pieces (W·Width .number) (self .entry)) ⌝ }
+        ensures nulls { λ r. ⌜ r .0 .nulls ≡ nulls-in (map row-of (kept-pieces (W·Width .number) (self .entry))) ⌝ }
+        ensures counts { λ r. ⌜ r .0 ≡ counted (map row-of (kept-pieces (W·Width .number) (self .entry))) ⌝ }
         ensures accepted { λ r. ⌜ verdict (r .0 .rows) (lists-of (W·Width .number) (r .1)) ≡ None ⌝ }
-        ensures reads { λ r. ⌜ rows-in (r .0 .rows) (lists-of (W·Width .number) (r .1)) ≡ kept-rows (W·Width .number) (self .entry) ⌝ }
-        ensures memory { λ r. ⌜ memory-of (W·Width .number) (r .1) ≡ image (sizes-of (self .entry .memory)) (kept-rows (W·Width .number) (self .entry)) ⌝ }
+        ensures memory { λ r. ⌜ memory-of (W·Width .number) (r .1) ≡ image (sizes-of (self .entry .memory)) (map row-of (kept-pieces (W·Width .number) (self .entry))) ⌝ }
     {
         let mut store = self;
         store.discard();
