@@ -4,6 +4,7 @@ ghost use mathlib.Core.List.{[], _++_, map};
 ghost use mathlib.Core.Path.{_≡_};
 ghost use Rattle.columns.specs.Offsets.{rows-in, verdict};
 ghost use Rattle.columns.specs.Reading.{itself};
+ghost use Rattle.offset_layout.specs.Layout.{zeros};
 ghost use Rattle.offset_output.specs.Memories.{lists-of, rule-of};
 ghost use Rattle.offset_output.specs.Stores.{Counted, Ordered, Sound, counted, image, kept-pieces, kept-rows, memory-of, pending-pieces, sizes-of, store-rule};
 ghost use Rattle.output.specs.Rows.{copied, nulls-in, row-of};
@@ -33,7 +34,7 @@ impl<'a> OffsetOutput32<'a> {
         ensures pending { λ r. ⌜ pending-pieces itself (r .store) ≡ [] ⌝ }
         ensures rule { λ r. ⌜ store-rule 2147483647 (r .store) ≡ rule-of 2147483647 (memory .entry) ⌝ }
         ensures sizes { λ r. ⌜ sizes-of (r .store .memory) ≡ sizes-of (memory .entry) ⌝ }
-        ensures memory { λ r. ⌜ memory-of itself (r .store .memory) ≡ image (sizes-of (memory .entry)) [] ⌝ }
+        ensures memory { λ r. ⌜ memory-of itself (r .store .memory) ≡ zeros (length (memory-of itself (memory .entry))) ⌝ }
     {
         OffsetOutput32 {
             store: Store::new(memory),

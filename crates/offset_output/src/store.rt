@@ -3,6 +3,7 @@ ghost use lib.ListN.{length};
 ghost use mathlib.Core.List.{[], _++_, map};
 ghost use mathlib.Core.Path.{_≡_};
 ghost use Rattle.columns.specs.Offsets.{rows-in, verdict};
+ghost use Rattle.offset_layout.specs.Layout.{zeros};
 ghost use Rattle.offset_output.specs.Memories.{lists-of, rule-of};
 ghost use Rattle.offset_output.specs.Stores.{Counted, Ordered, Sound, counted, image, kept-pieces, memory-of, pending-pieces, sizes-of, store-rule, whole};
 ghost use Rattle.output.specs.Rows.{grown, nulls-in, row-of};
@@ -31,7 +32,7 @@ impl<'a, W: OffsetWidth> Store<'a, W> {
         ensures pending { λ r. ⌜ pending-pieces (W·Width .number) r ≡ [] ⌝ }
         ensures rule { λ r. ⌜ store-rule (W·Width .most) r ≡ rule-of (W·Width .most) (memory .entry) ⌝ }
         ensures sizes { λ r. ⌜ sizes-of (r .memory) ≡ sizes-of (memory .entry) ⌝ }
-        ensures memory { λ r. ⌜ memory-of (W·Width .number) (r .memory) ≡ image (sizes-of (memory .entry)) [] ⌝ }
+        ensures memory { λ r. ⌜ memory-of (W·Width .number) (r .memory) ≡ zeros (length (memory-of (W·Width .number) (memory .entry))) ⌝ }
     {
         let mut memory = memory;
         memory.clear();

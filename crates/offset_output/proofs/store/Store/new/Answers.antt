@@ -2,6 +2,7 @@ use mathlib.Core.Path.{_≡_, refl, ap, _∙_}
 use mathlib.Core.List.{[], map}
 use native.Mathlib.Omega.{arith}
 use Rattle.offset_layout.specs.Layout.{used}
+use Rattle.offset_output.proofs.Cleared.{cleared}
 use Rattle.offset_output.proofs.Stored.{all-are, memory-is, sound, ordered, counted}
 use Rattle.offset_output.specs.Stores.{image, sizes-of, whole}
 use Rattle.offset_output.specs.declared.extent.Extent.{Extent}
@@ -25,5 +26,5 @@ returns g c =
       pending = ap (map whole) (all-are num t [] h);
       rule = simp (z .0, z .1, z .2);
       sizes = sizes;
-      memory = memory-is num t [] h ∙ ap (λ x. image x []) sizes;
+      memory = memory-is num t [] h ∙ (ap (λ x. image x []) sizes ∙ cleared num (c .args .memory));
     }
