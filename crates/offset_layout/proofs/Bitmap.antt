@@ -1,20 +1,19 @@
 -- The bitmap of rows: one row more, fewer rows, none, and a bit of it.
-use mathlib.Core.Path.{_≡_, refl, sym, ap, _∙_}
-use mathlib.Core.Logic.{_⊎_, inl, inr, ⊎-elim, _≢_}
-use mathlib.Core.List.{List, [], _∷_, _++_, map}
+use mathlib.Core.Path.{_≡_, sym, ap, _∙_}
+use mathlib.Core.Logic.{⊎-elim, _≢_}
+use mathlib.Core.List.{List, [], _∷_, _++_}
 use Prim.Native.Nat.{ℕ, _+_, _-_, _*_, _/_, _%_, _^_, _≤_, _<_}
 use native.Mathlib.Omega.{arith}
 use lib.Bits.{bitOr}
-use lib.ListN.{length, getD, take, replicate, set}
+use lib.ListN.{length, getD, take, set}
 use lib.Seq.{paste}
-use Rattle.std.specs.Iters.{counting}
 use Rattle.std.proofs.shelf.Lists.{length-push, same-lists, length-take-le, getD-take, length-replicate, getD-replicate, length-set, getD-set-same, getD-set-other, getD-append-left, getD-past, getD-push}
 use Rattle.std.proofs.shelf.Edits.{length-paste}
 use Rattle.std.proofs.shelf.Counted.{length-map-counting, getD-map-counting}
 use Rattle.std.proofs.shelf.Tests.{cases-lt, cases-eq}
 use Rattle.std.specs.declared.option.Option.the-variants.{Some, None}
 use Rattle.source.specs.Rows.{Row}
-use Rattle.offset_layout.specs.Layout.{zeros, bit-of, packed, byte, bitmap-of}
+use Rattle.offset_layout.specs.Layout.{zeros, bit-of, byte, bitmap-of}
 use Rattle.offset_layout.proofs.Bits.{packed-same, packed-bit, packed-raise, packed-low, or-adds}
 use Rattle.offset_layout.proofs.Wiping.{wiped-low, wiped-mid, wiped-high}
 

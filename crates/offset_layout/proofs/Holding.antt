@@ -2,18 +2,18 @@
 use mathlib.Core.Path.{_≡_, refl, sym, ap, _∙_}
 use mathlib.Core.Bool.{true}
 use mathlib.Core.List.{List, [], _∷_, _++_}
-use Prim.Native.Nat.{ℕ, _+_, _-_, _*_, _/_, _%_, _^_, _≤_, _<_}
+use Prim.Native.Nat.{ℕ, _+_, _-_, _/_, _%_, _^_, _≤_, _<_}
 use native.Mathlib.Omega.{arith}
 use lib.Bits.{bitOr}
 use lib.IntN.{ℤ, pos}
-use lib.ListN.{length, getD, take, drop, replicate, set}
+use lib.ListN.{length, getD, take, replicate, set}
 use lib.Seq.{paste}
 use Rattle.std.proofs.shelf.Lists.{length-push, length-replicate, length-set, length-take-le, take-all}
 use Rattle.std.proofs.shelf.Edits.{length-paste}
 use Rattle.std.specs.declared.option.Option.the-variants.{Some, None}
 use Rattle.source.specs.Rows.{Row}
 use Rattle.text.specs.Steps.{formed}
-use Rattle.offset_layout.specs.Layout.{zeros, bytes, used, values-of, offsets-of, bitmap-of, capacity, Holds}
+use Rattle.offset_layout.specs.Layout.{zeros, used, capacity, Holds}
 use Rattle.offset_layout.proofs.Bitmap.{bitmap-push, bitmap-null, bitmap-cut, bitmap-none}
 use Rattle.offset_layout.proofs.Forms.{formed-push, formed-take}
 use Rattle.offset_layout.proofs.Offsets.{offsets-at, offset-low, offsets-push, offsets-cut, offsets-none}

@@ -1,27 +1,25 @@
 -- Memory that holds rows, read as a column: the rows come out again, and it may be opened.
 use mathlib.Core.Path.{_≡_, refl, sym, ap, _∙_}
-use mathlib.Core.Bool.{Bool, true, false, cond, _&&_, _||_}
-use mathlib.Core.List.{List, [], _∷_, _++_}
-use Prim.Native.Nat.{ℕ, zero, suc, _+_, _-_, _*_, _/_, _≤_, _<_}
+use mathlib.Core.Bool.{true, cond}
+use mathlib.Core.List.{List}
+use Prim.Native.Nat.{ℕ, zero, suc, _+_, _-_, _*_, _≤_, _<_}
 use native.Mathlib.Omega.{arith}
-use lib.Dec.{eqb, leb, ltb}
+use lib.Dec.{eqb}
 use lib.IntN.{ℤ, pos}
-use lib.ListN.{length, getD, take, drop}
-use Rattle.std.proofs.shelf.Lists.{length-append, length-replicate, same-lists, getD-default, take-append-le, drop-append-le}
+use lib.ListN.{length, getD, take}
+use Rattle.std.proofs.shelf.Lists.{length-append, length-replicate, same-lists, getD-default}
 use Rattle.std.proofs.shelf.Ways.{tells}
 use Rattle.std.specs.Options.{isSome}
 use Rattle.std.specs.Joined.{joined}
-use Rattle.std.specs.shelf.Lists.{between}
 use Rattle.std.specs.declared.option.Option.the-variants.{Some, None}
 use Rattle.fault.specs.declared.Fault.the-variants.{ShortList, Offset}
-use Rattle.bitmap.specs.Validity.{bit, valid, bitmap-bytes}
+use Rattle.bitmap.specs.Validity.{bit}
 use Rattle.source.specs.Rows.{Row}
 use Rattle.source.specs.Verdicts.{Verdict, then, unless, first-fault, malformed}
 use Rattle.source.proofs.Numbered.{length-rows-by, at-rows-by}
-use Rattle.text.specs.Steps.{formed}
 use Rattle.columns.specs.Offsets.{Lists, place, place-of, part, row-at, rows-in, enough, row-fault, verdict}
 use Rattle.columns.proofs.Cutting.{in-order}
-use Rattle.offset_layout.specs.Layout.{zeros, bytes, bit-of, used, offset, values-of, offsets-of, bitmap-of, capacity, row-formed, column, Holds}
+use Rattle.offset_layout.specs.Layout.{zeros, bytes, bit-of, used, offset, values-of, offsets-of, bitmap-of, row-formed, column, Holds}
 use Rattle.offset_layout.proofs.Bitmap.{bit-at}
 use Rattle.offset_layout.proofs.Forms.{formed-at}
 use Rattle.offset_layout.proofs.Offsets.{offsets-at, offset-low}

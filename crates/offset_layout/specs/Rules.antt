@@ -1,10 +1,7 @@
 -- The verdict on a coming row.
-use mathlib.Core.List.{List}
-use mathlib.Core.Bool.{cond}
 use Prim.Native.Nat.{ℕ, _+_}
 use lib.ListN.{length}
 use lib.Dec.{leb, ltb}
-use Rattle.std.specs.declared.option.Option.{Option}
 use Rattle.std.specs.declared.option.Option.the-variants.{Some, None}
 use Rattle.fault.specs.declared.Fault.the-variants.{RowsFull, TooLong, BytesFull}
 use Rattle.output.specs.Rows.{Rule}

@@ -1,13 +1,13 @@
 -- Memory without rows is all zeros.
-use mathlib.Core.Path.{_≡_, refl, sym, ap, _∙_}
-use mathlib.Core.List.{List, [], _∷_, _++_, map}
+use mathlib.Core.Path.{_≡_, refl, ap, _∙_}
+use mathlib.Core.List.{[], _∷_, _++_, map}
 use Prim.Native.Nat.{ℕ, zero, suc, _+_}
 use native.Mathlib.Omega.{arith}
 use denote.Ref.{now}
 use lib.IntN.{ℤ, pos}
 use lib.ListN.{length, replicate}
 use Rattle.std.proofs.shelf.Lists.{length-append, length-map, replicate-append-replicate}
-use Rattle.offset_layout.specs.Layout.{zeros, values-of, offsets-of, bitmap-of}
+use Rattle.offset_layout.specs.Layout.{zeros, values-of, bitmap-of}
 use Rattle.offset_layout.proofs.Bitmap.{bitmap-none}
 use Rattle.offset_layout.proofs.Offsets.{offsets-none}
 use Rattle.offset_layout.proofs.Values.{values-none}

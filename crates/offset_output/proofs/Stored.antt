@@ -1,6 +1,5 @@
 -- What is known of rows that are kept and pending in memory.
 use mathlib.Core.Path.{_≡_, refl, sym, ap, _∙_}
-use mathlib.Core.Bool.{true}
 use mathlib.Core.List.{List, [], _∷_, _++_, map}
 use Prim.Native.Nat.{ℕ, _≤_}
 use native.Mathlib.Omega.{arith}
@@ -10,13 +9,12 @@ use lib.ListN.{length, take, drop}
 use Rattle.std.proofs.shelf.Lists.{append-nil, length-map, length-take, map-append, take-append-drop}
 use Rattle.std.specs.declared.option.Option.the-variants.{None}
 use Rattle.columns.specs.Offsets.{verdict}
-use Rattle.offset_layout.specs.Layout.{used, all-formed, offsets-of, values-of, bitmap-of}
+use Rattle.offset_layout.specs.Layout.{used, all-formed, offsets-of, values-of}
 use Rattle.offset_layout.proofs.Reading.{length-rows, opens, rows-are, sound-from}
-use Rattle.output.specs.Rows.{Piece, row-of, nulls-in}
+use Rattle.output.specs.Rows.{row-of, nulls-in}
 use Rattle.source.specs.Rows.{Row}
 use Rattle.offset_output.specs.Memories.{Has, lists-of, rows-of}
-use Rattle.offset_output.specs.Stores.{whole, laid, image, memory-of, sizes-of, all-rows, kept-rows, pending-rows, kept-pieces, pending-pieces, Sound, Ordered, Counted}
-use Rattle.offset_output.specs.declared.memory.Memory.{Memory}
+use Rattle.offset_output.specs.Stores.{whole, laid, image, memory-of, sizes-of, all-rows, kept-rows, kept-pieces, pending-pieces, Sound, Ordered, Counted}
 use Rattle.offset_output.specs.declared.store.Store.{Store}
 
 -- pieces and their rows

@@ -6,7 +6,7 @@ ghost use Rattle.columns.specs.Offsets.{rows-in, verdict};
 ghost use Rattle.columns.specs.Reading.{itself};
 ghost use Rattle.offset_layout.specs.Layout.{zeros};
 ghost use Rattle.offset_output.specs.Memories.{lists-of, rule-of};
-ghost use Rattle.offset_output.specs.Stores.{Counted, Ordered, Sound, counted, image, kept-pieces, kept-rows, memory-of, pending-pieces, sizes-of, store-rule};
+ghost use Rattle.offset_output.specs.Stores.{Counted, Ordered, Sound, counted, image, kept-pieces, memory-of, pending-pieces, sizes-of, store-rule};
 ghost use Rattle.output.specs.Rows.{copied, nulls-in, row-of};
 ghost use Rattle.std.specs.declared.option.Option.the-variants.{None};
 use crate::memory::Memory;

@@ -24,6 +24,7 @@ pub struct Store<'a, W: OffsetWidth> {
 }
 
 impl<'a, W: OffsetWidth> Store<'a, W> {
+    /// No rows, in memory that is cleared.
     pub fn new(memory: Memory<'a, W>) -> Store<'a, W>
         ensures sound { λ r. ⌜ Sound (W·Width .number) r ⌝ }
         ensures ordered { λ r. ⌜ Ordered (W·Width .number) r ⌝ }
@@ -48,6 +49,7 @@ impl<'a, W: OffsetWidth> Store<'a, W> {
         }
     }
 
+    /// The number of rows kept.
     pub fn rows(&self) -> usize
         requires ordered { ⌜ Ordered (W·Width .number) (now self) ⌝ }
         ensures { λ r. ⌜ r ≡ length (kept-pieces (W·Width .number) (now (self .entry))) ⌝ }
@@ -55,6 +57,7 @@ impl<'a, W: OffsetWidth> Store<'a, W> {
         self.kept.rows
     }
 
+    /// Puts a row after all others, or says why not.
     pub fn add(&mut self, text: Option<&str>) -> Result<(), Fault>
         requires sound { ⌜ Sound (W·Width .number) (now self) ⌝ }
         requires ordered { ⌜ Ordered (W·Width .number) (now self) ⌝ }
@@ -73,6 +76,7 @@ impl<'a, W: OffsetWidth> Store<'a, W> {
         Ok(())
     }
 
+    /// Keeps the pending rows.
     pub fn keep(&mut self)
         requires sound { ⌜ Sound (W·Width .number) (now self) ⌝ }
         requires ordered { ⌜ Ordered (W·Width .number) (now self) ⌝ }
@@ -87,6 +91,7 @@ impl<'a, W: OffsetWidth> Store<'a, W> {
         self.kept = self.held;
     }
 
+    /// Takes the pending rows out of the memory again.
     pub fn discard(&mut self)
         requires sound { ⌜ Sound (W·Width .number) (now self) ⌝ }
         requires ordered { ⌜ Ordered (W·Width .number) (now self) ⌝ }
@@ -107,6 +112,7 @@ impl<'a, W: OffsetWidth> Store<'a, W> {
         }
     }
 
+    /// The kept rows, counted, and the memory with them alone.
     pub fn finish(self) -> (Counts, Memory<'a, W>)
         requires sound { ⌜ Sound (W·Width .number) self ⌝ }
         requires ordered { ⌜ Ordered (W·Width .number) self ⌝ }

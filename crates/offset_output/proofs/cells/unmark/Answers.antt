@@ -1,8 +1,7 @@
 use native.Mathlib.Omega.{arith}
-use mathlib.Core.Path.{_≡_, refl, sym, ap, _∙_}
-use Prim.Native.Nat.{ℕ, _-_, _/_, _%_, _^_, _*_}
-use lib.ListN.{getD, set}
-use lib.Bits.{bitAnd}
+use mathlib.Core.Path.{_≡_}
+use Prim.Native.Nat.{_/_, _%_, _^_, _*_}
+use lib.ListN.{getD}
 use Rattle.std.proofs.shelf.Bits.{and-mask, one-shl}
 use Rattle.offset_output.proofs.cells.unmark.Needs as need
 

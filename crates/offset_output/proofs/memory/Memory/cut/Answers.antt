@@ -1,6 +1,5 @@
 use native.Mathlib.Omega.{arith}
 use borrow.Author.Needs.{needs}
-use Prim.Native.Nat.{_+_, _-_, _<_}
 use Rattle.std.proofs.shelf.Lists.{length-map}
 use Rattle.offset_layout.proofs.Holding.{cut-to, size-cut}
 use Rattle.offset_output.proofs.memory.Memory.cut.Needs as need

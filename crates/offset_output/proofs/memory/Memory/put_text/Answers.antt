@@ -1,10 +1,9 @@
 use native.Mathlib.Omega.{arith}
-use mathlib.Core.Path.{_≡_, refl, ap, _∙_}
+use mathlib.Core.Path.{refl, ap, _∙_}
 use mathlib.Core.List.{map}
 use Prim.Native.Nat.{_+_, _<_}
 use lib.ListN.{length, set}
 use Rattle.std.proofs.shelf.Lists.{length-map, length-set, map-set}
-use Rattle.columns.specs.Offsets.{rows-in}
 use Rattle.offset_layout.proofs.Holding.{push-text-to}
 use Rattle.offset_layout.specs.Layout.{capacity}
 use Rattle.offset_output.proofs.Nulls.{text-more}
