@@ -1,0 +1,9 @@
+//! Tests of the offset outputs on examples.
+#[cfg(test)]
+mod batches;
+#[cfg(test)]
+mod capacity;
+#[cfg(test)]
+mod reading;
+#[cfg(test)]
+mod rows;
