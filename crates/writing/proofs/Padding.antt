@@ -70,3 +70,13 @@ pub wiped-all : (xs : List ℕ) (n : ℕ) → length xs ≡ n → paste xs 0 (ze
 wiped-all xs n e =
     let z : n - 0 ≡ n = omega arith in
     ap (λ k. paste xs 0 (zeros k) k) z ∙ (paste-all xs 0 (zeros n) n (sym (length-replicate n 0)) ∙ (ap (λ t. zeros n ++ t) (drop-all _ xs (omega arith)) ∙ append-nil (zeros n)))
+
+-- zeros that are written
+pub padded-zeros : (size : ℕ) (xs : List ℕ) (k : ℕ) → length xs + k ≤ size → padded size (xs ++ zeros k) ≡ padded size xs
+unfolding padded
+padded-zeros size xs k fits =
+    let z : length (zeros k) ≡ k = length-replicate k 0 in
+    let l : length (xs ++ zeros k) ≡ length xs + length (zeros k) = length-append xs (zeros k) in
+    let s : ℕ = size - length (xs ++ zeros k) in
+    let m : k + s ≡ size - length xs = omega arith in
+    append-assoc xs (zeros k) (zeros s) ∙ ap (λ x. xs ++ x) (replicate-append-replicate k s 0 ∙ ap zeros m)
