@@ -1,0 +1,3 @@
+//! View outputs: rows copied to lent memory as views, in the layout that view columns are read from.
+mod store;
+mod storing;
