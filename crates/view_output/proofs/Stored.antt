@@ -104,3 +104,9 @@ sound-from s rows h k le c =
       counted = subst (Counted (s .held)) (sym e) k;
       saved = subst (λ xs. Counted (s .kept) (take (s .kept .rows) xs)) (sym e) c;
     }
+
+-- so all memory is fixed by its sizes and the pieces held
+pub memory-held : (s : Store) → Written s → Fitting s → memory-of (s .memory) ≡ image (sizes-of (s .memory)) (map row-of (kept-pieces s ++ pending-pieces s))
+memory-held s w f =
+    let h : Has (s .memory) (all-rows s) = record { room = f .0; few = f .1; fits = f .2; sound = f .3; views-are = w .0; bitmap-is = w .1; ends-are = w .2; bytes-are = w .3 } in
+    image-from (s .memory) (all-rows s) h ∙ ap (image (sizes-of (s .memory))) (sym (rows-parts (s .kept .rows) (all-rows s)))
