@@ -18,13 +18,13 @@ use Rattle.view_memory.specs.declared.memory.Memory.{Memory}
 
 -- a column over the memory, with the rows and the ends counted
 abbrev pub column-of : Memory → Counts → Lists
-column-of m c = lists-of (now (m .views)) (now (m .bitmap)) (now (m .ends)) (now (m .bytes)) (c .buffers)
+column-of m c = lists-of (now (m .views)) (now (m .validity)) (now (m .ends)) (now (m .bytes)) (c .buffers)
 
 unfoldable pub rows-of : Memory → Counts → List Row
 rows-of m c = rows-in (c .rows) (column-of m c)
 
 abbrev pub Has : Memory → List Row → Type 0
-Has m rows = Holds (now (m .views)) (now (m .bitmap)) (now (m .ends)) (now (m .bytes)) rows
+Has m rows = Holds (now (m .views)) (now (m .validity)) (now (m .ends)) (now (m .bytes)) rows
 
 -- how many texts are longer than 12 bytes
 abbrev pub longs-in : List Row → ℕ
@@ -53,12 +53,12 @@ Counted c rows =
 
 -- the rule, by the sizes of the memory
 abbrev pub rule-of : Memory → Rule
-rule-of m = view-rule (capacity (length (now (m .views))) (length (now (m .bitmap)))) (end-capacity (length (now (m .ends)))) (length (now (m .bytes)))
+rule-of m = view-rule (capacity (length (now (m .views))) (length (now (m .validity)))) (end-capacity (length (now (m .ends)))) (length (now (m .bytes)))
 
 abbrev pub SameSizes : Memory → Memory → Type 0
 SameSizes m k =
     (length (now (k .views)) ≡ length (now (m .views)))
-    × (length (now (k .bitmap)) ≡ length (now (m .bitmap)))
+    × (length (now (k .validity)) ≡ length (now (m .validity)))
     × (length (now (k .ends)) ≡ length (now (m .ends)))
     × (length (now (k .bytes)) ≡ length (now (m .bytes)))
 

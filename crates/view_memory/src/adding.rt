@@ -22,12 +22,12 @@ impl Memory<'_> {
     fn add_short(&mut self, held: Counts, text: &str) -> Counts
         requires holds { ⌜ Has (now self) (rows-of (now self) held) ⌝ }
         requires counted { ⌜ Counted held (rows-of (now self) held) ⌝ }
-        requires room { ⌜ held .rows < capacity (length (now (now self .views))) (length (now (now self .bitmap))) ⌝ }
+        requires room { ⌜ held .rows < capacity (length (now (now self .views))) (length (now (now self .validity))) ⌝ }
         requires short { ⌜ length (now text) ≤ 12 ⌝ }
         ensures { λ r. ⌜ Added (now (self .entry)) (now (self .exit)) held (Some (now (text .entry))) r ⌝ }
     {
         put_view(self.views, 16 * held.rows, text.as_bytes(), 0, 0);
-        mark(self.bitmap, held.rows);
+        mark(self.validity, held.rows);
         Counts {
             rows: held.rows + 1,
             ..held
@@ -38,7 +38,7 @@ impl Memory<'_> {
     fn add_long(&mut self, held: Counts, text: &str) -> Counts
         requires holds { ⌜ Has (now self) (rows-of (now self) held) ⌝ }
         requires counted { ⌜ Counted held (rows-of (now self) held) ⌝ }
-        requires room { ⌜ held .rows < capacity (length (now (now self .views))) (length (now (now self .bitmap))) ⌝ }
+        requires room { ⌜ held .rows < capacity (length (now (now self .views))) (length (now (now self .validity))) ⌝ }
         requires long { ⌜ 12 < length (now text) ⌝ }
         requires may { ⌜ text-verdict (end-capacity (length (now (now self .ends)))) (length (now (now self .bytes))) (buffers-of (rows-of (now self) held)) (length (now text)) ≡ None ⌝ }
         ensures { λ r. ⌜ Added (now (self .entry)) (now (self .exit)) held (Some (now (text .entry))) r ⌝ }
@@ -55,7 +55,7 @@ impl Memory<'_> {
             buffer as u32,
             offset as u32,
         );
-        mark(self.bitmap, held.rows);
+        mark(self.validity, held.rows);
         Counts {
             rows: held.rows + 1,
             value_bytes: end,

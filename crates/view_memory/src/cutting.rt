@@ -34,8 +34,8 @@ impl Memory<'_> {
         ensures holds { λ _. ⌜ Has (now (self .exit)) (take (kept .rows) (rows-of (now (self .entry)) held)) ⌝ }
     {
         wipe(self.views, 16 * kept.rows, 16 * held.rows);
-        unmark(self.bitmap, kept.rows);
-        wipe(self.bitmap, kept.rows / 8 + 1, (held.rows - 1) / 8 + 1);
+        unmark(self.validity, kept.rows);
+        wipe(self.validity, kept.rows / 8 + 1, (held.rows - 1) / 8 + 1);
         cut_ends(self.ends, kept, held);
         wipe(self.bytes, kept.value_bytes, held.value_bytes);
     }
@@ -47,8 +47,8 @@ impl Memory<'_> {
     {
         let all = self.views.len();
         wipe(self.views, 0, all);
-        let all = self.bitmap.len();
-        wipe(self.bitmap, 0, all);
+        let all = self.validity.len();
+        wipe(self.validity, 0, all);
         let all = self.ends.len();
         wipe_ends(self.ends, 0, all);
         let all = self.bytes.len();

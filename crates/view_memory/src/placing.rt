@@ -20,9 +20,9 @@ const LARGEST: usize = 2147483647;
 impl Memory<'_> {
     /// Whether there is room for a row behind others. No product may wrap.
     fn has_room(&self, rows: usize) -> bool
-        ensures { λ r. ⌜ r ≡ ltb rows (capacity (length (now (now (self .entry) .views))) (length (now (now (self .entry) .bitmap)))) ⌝ }
+        ensures { λ r. ⌜ r ≡ ltb rows (capacity (length (now (now (self .entry) .views))) (length (now (now (self .entry) .validity)))) ⌝ }
     {
-        rows < self.views.len() / 16 && rows / 8 < self.bitmap.len()
+        rows < self.views.len() / 16 && rows / 8 < self.validity.len()
     }
 
     /// The bytes in the last buffer.

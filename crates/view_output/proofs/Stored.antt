@@ -61,10 +61,10 @@ none-counted = (refl, refl, refl, refl, refl)
 -- memory that holds rows is their image
 pub image-from : (m : Memory) (rows : List Row) → Has m rows → memory-of m ≡ image (sizes-of m) rows
 image-from m rows h =
-    ap (λ (x : List ℕ). laid x (now (m .bitmap)) (now (m .ends)) (now (m .bytes))) (h .views-are)
+    ap (λ (x : List ℕ). laid x (now (m .validity)) (now (m .ends)) (now (m .bytes))) (h .views-are)
     ∙ (ap (λ (x : List ℕ). laid (views-of (length (now (m .views))) rows) x (now (m .ends)) (now (m .bytes))) (h .bitmap-is)
-    ∙ (ap (λ (x : List ℕ). laid (views-of (length (now (m .views))) rows) (bitmap-of (length (now (m .bitmap))) rows) x (now (m .bytes))) (h .ends-are)
-    ∙ ap (λ (x : List ℕ). laid (views-of (length (now (m .views))) rows) (bitmap-of (length (now (m .bitmap))) rows) (ends-of (length (now (m .ends))) rows) x) (h .bytes-are)))
+    ∙ (ap (λ (x : List ℕ). laid (views-of (length (now (m .views))) rows) (bitmap-of (length (now (m .validity))) rows) x (now (m .bytes))) (h .ends-are)
+    ∙ ap (λ (x : List ℕ). laid (views-of (length (now (m .views))) rows) (bitmap-of (length (now (m .validity))) rows) (ends-of (length (now (m .ends))) rows) x) (h .bytes-are)))
 
 -- the same sizes have the same rule
 pub same-sizes : (m k : Memory) → SameSizes m k → sizes-of k ≡ sizes-of m
@@ -77,13 +77,13 @@ same-sizes m k z =
 
 pub same-rule : (m k : Memory) → SameSizes m k → rule-of k ≡ rule-of m
 same-rule m k z =
-    let b : ℕ = length (now (k .bitmap)) in
+    let b : ℕ = length (now (k .validity)) in
     let e : ℕ = length (now (k .ends)) in
     let d : ℕ = length (now (k .bytes)) in
     ap (λ n. view-rule (capacity n b) (end-capacity e) d) (z .0)
     ∙ (ap (λ n. view-rule (capacity (length (now (m .views))) n) (end-capacity e) d) (z .1)
-    ∙ (ap (λ n. view-rule (capacity (length (now (m .views))) (length (now (m .bitmap)))) (end-capacity n) d) (z .2)
-    ∙ ap (λ n. view-rule (capacity (length (now (m .views))) (length (now (m .bitmap)))) (end-capacity (length (now (m .ends)))) n) (z .3)))
+    ∙ (ap (λ n. view-rule (capacity (length (now (m .views))) (length (now (m .validity)))) (end-capacity n) d) (z .2)
+    ∙ ap (λ n. view-rule (capacity (length (now (m .views))) (length (now (m .validity)))) (end-capacity (length (now (m .ends)))) n) (z .3)))
 
 module _ (s : Store) (h : Sound s) where
   pub has : Has (s .memory) (all-rows s)

@@ -37,14 +37,14 @@ pending-pieces s = map whole (pending-rows s)
 
 -- the sizes of memory
 abbrev pub sizes-of : Memory → List ℕ
-sizes-of m = length (now (m .views)) ∷ length (now (m .bitmap)) ∷ length (now (m .ends)) ∷ length (now (m .bytes)) ∷ []
+sizes-of m = length (now (m .views)) ∷ length (now (m .validity)) ∷ length (now (m .ends)) ∷ length (now (m .bytes)) ∷ []
 
 -- all memory, as one list
 abbrev pub laid : (views bitmap ends bytes : List ℕ) → List ℕ
 laid views bitmap ends bytes = views ++ (bitmap ++ (ends ++ bytes))
 
 abbrev pub memory-of : Memory → List ℕ
-memory-of m = laid (now (m .views)) (now (m .bitmap)) (now (m .ends)) (now (m .bytes))
+memory-of m = laid (now (m .views)) (now (m .validity)) (now (m .ends)) (now (m .bytes))
 
 -- what memory of these sizes holds with these rows in it: what is beyond the rows is zero
 abbrev pub image : List ℕ → List Row → List ℕ
@@ -58,14 +58,14 @@ image (v ∷ b ∷ e ∷ d ∷ rest) rows = laid (views-of v rows) (bitmap-of b 
 abbrev pub Written : Store → Type 0
 Written s =
     (now (s .memory .views) ≡ views-of (length (now (s .memory .views))) (all-rows s))
-    × (now (s .memory .bitmap) ≡ bitmap-of (length (now (s .memory .bitmap))) (all-rows s))
+    × (now (s .memory .validity) ≡ bitmap-of (length (now (s .memory .validity))) (all-rows s))
     × (now (s .memory .ends) ≡ ends-of (length (now (s .memory .ends))) (all-rows s))
     × (now (s .memory .bytes) ≡ data-of (length (now (s .memory .bytes))) (all-rows s))
 
 -- they fit, and each is sound
 abbrev pub Fitting : Store → Type 0
 Fitting s =
-    (length (all-rows s) ≤ capacity (length (now (s .memory .views))) (length (now (s .memory .bitmap))))
+    (length (all-rows s) ≤ capacity (length (now (s .memory .views))) (length (now (s .memory .validity))))
     × (length (buffers-of (all-rows s) .ends) ≤ end-capacity (length (now (s .memory .ends))))
     × (length (buffers-of (all-rows s) .bytes) ≤ length (now (s .memory .bytes)))
     × ((k : ℕ) → sound-row (getD (all-rows s) k None) ≡ true)

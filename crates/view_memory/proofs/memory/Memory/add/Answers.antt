@@ -24,7 +24,7 @@ add-result-in-None c =
     let n = nulls-most rows in
     let a = c .pre .counted .0 in
     let b = c .pre .counted .1 in
-    let p = rule-may (capacity (length (m .views .now)) (length (m .bitmap .now))) (end-capacity (length (m .ends .now))) (length (m .bytes .now)) rows (held .rows) a (mapped now (c .args .text)) (sym (c .in-rest .ensures tt)) .0 in
+    let p = rule-may (capacity (length (m .views .now)) (length (m .validity .now))) (end-capacity (length (m .ends .now))) (length (m .bytes .now)) rows (held .rows) a (mapped now (c .args .text)) (sym (c .in-rest .ensures tt)) .0 in
     search needs
 
 pub returns-in-None : need.returns-in-None
@@ -32,7 +32,7 @@ returns-in-None c =
     let m = c .args .self .now in
     let held = c .args .held in
     let rows = rows-of m held in
-    let p = rule-may (capacity (length (m .views .now)) (length (m .bitmap .now))) (end-capacity (length (m .ends .now))) (length (m .bytes .now)) rows (held .rows) (c .pre .counted .0) (mapped now (c .args .text)) (sym (c .in-rest .ensures tt)) .0 in
+    let p = rule-may (capacity (length (m .views .now)) (length (m .validity .now))) (end-capacity (length (m .ends .now))) (length (m .bytes .now)) rows (held .rows) (c .pre .counted .0) (mapped now (c .args .text)) (sym (c .in-rest .ensures tt)) .0 in
     let x : None ≡ mapped now (c .args .text) = ap (mapped now) (sym (c .in-None .is)) in
     let k : Counts = record { rows = held .rows + 1; nulls = held .nulls + 1; «value_bytes» = held .«value_bytes»; buffers = held .buffers; «long_views» = held .«long_views» } in
     let h : Added m m held None k = record { sizes = (refl, refl, refl, refl); holds = push-null (c .pre .holds) (held .rows) (c .pre .counted .0) p; counted = count-null held rows (c .pre .counted) } in

@@ -8,5 +8,5 @@ returns c =
     let m = c .args .self .now in
     record {
       sizes = (omega arith, omega arith, omega arith, omega arith);
-      holds = no-rows (m .views .now) (m .bitmap .now) (m .ends .now) (m .bytes .now) _ _ _ _ (c .wipe .ensures) (c .wipe-2 .ensures) (c .wipe-ends .ensures) (c .wipe-3 .ensures);
+      holds = no-rows (m .views .now) (m .validity .now) (m .ends .now) (m .bytes .now) _ _ _ _ (c .wipe .ensures) (c .wipe-2 .ensures) (c .wipe-ends .ensures) (c .wipe-3 .ensures);
     }
