@@ -1,0 +1,2 @@
+mod Pastes
+pub mod Decode

@@ -1,0 +1,2 @@
+//! The views that stand for texts, as bytes in lent memory.
+pub mod cells;

@@ -1,0 +1,4 @@
+pub mod Layout
+pub mod Rule
+pub mod Holding
+pub mod Memories
