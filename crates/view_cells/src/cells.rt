@@ -7,6 +7,9 @@ ghost use Rattle.view_cells.specs.Views.{long-view, short-view, view-of, word-
 use writing::bytes::put_text;
 use writing::bytes::wipe;
 
+/// A text of up to so many bytes stands in its view.
+pub const SHORT: usize = 12;
+
 /// Writes a 32-bit number, little-endian.
 fn put_word(bytes: &mut [u8], at: usize, n: u32)
     requires { ⌜ at + 4 ≤ length (now bytes) ⌝ }
@@ -45,7 +48,7 @@ pub fn put_view(views: &mut [u8], at: usize, text: &[u8], buffer: u32, offset: u
     requires small { ⌜ length (now text) ≤ 2147483647 ⌝ }
     ensures { λ _. ⌜ now (views .exit) ≡ paste (now (views .entry)) at (view-of (now (text .entry)) buffer offset) 16 ⌝ }
 {
-    if text.len() <= 12 {
+    if text.len() <= SHORT {
         put_short(views, at, text);
     } else {
         put_long(views, at, text, buffer, offset);

@@ -13,6 +13,7 @@ ghost use Rattle.view_memory.specs.Rule.{capacity, end-capacity, text-verdict}
 use crate::memory::Memory;
 use fault::Fault;
 use output::Counts;
+use view_cells::cells::SHORT;
 use view_cells::cells::put_view;
 use writing::bits::mark;
 use writing::bytes::put_text;
@@ -82,7 +83,7 @@ impl Memory<'_> {
                 ..held
             }),
             Some(text) => {
-                if text.len() <= 12 {
+                if text.len() <= SHORT {
                     Ok(self.add_short(held, text))
                 } else {
                     Ok(self.add_long(held, text))

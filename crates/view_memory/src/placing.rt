@@ -10,6 +10,7 @@ ghost use Rattle.view_memory.specs.Rule.{capacity, end-capacity, text-verdict}
 use crate::memory::Memory;
 use fault::Fault;
 use output::Counts;
+use view_cells::cells::SHORT;
 
 /// A buffer that holds several texts holds at most so many bytes; a longer text has one of its own.
 const BUFFER_BYTES: usize = 8192;
@@ -81,7 +82,7 @@ impl Memory<'_> {
         if len > LARGEST {
             return Some(Fault::TooLong { row: 0 });
         }
-        if len <= 12 {
+        if len <= SHORT {
             return None;
         }
         if self.lacks_ends(held, len) {
