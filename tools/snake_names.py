@@ -36,13 +36,17 @@ def ghost_spans(text):
     spans = []
     for m in re.finditer(r"^\s*ghost use [^;]*;", text, re.M):
         spans.append(m.span())
-    for m in re.finditer(r"\b(?:requires|ensures|invariant|ghost)\b[^{};\n]*\{", text):
+    for m in re.finditer(r"\b(?:requires|ensures|invariant|ghost(?! use))\b[^{};\n]*\{", text):
         depth, at = 1, m.end()
         while depth:
             depth += {"{": 1, "}": -1}.get(text[at], 0)
             at += 1
         spans.append((m.end(), at))
-    return sorted(spans)
+    apart = []
+    for s, e in sorted(spans):
+        if not apart or s >= apart[-1][1]:
+            apart.append((s, e))
+    return apart
 
 
 def code_spans(path, text):

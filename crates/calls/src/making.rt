@@ -1,10 +1,10 @@
 //! Making a call: its rows are added one by one, and kept all or none.
 ghost use Rattle.std.specs.Prelude.{◌≡◌, false, [], ◌++◌, map, is_ok};
 ghost use Rattle.book.specs.Book.{after, answer, fed};
-ghost use Rattle.book.specs.Requests.{Over, asked_by, asked_rowsasked_rows};
+ghost use Rattle.book.specs.Requests.{Over, asked_by, asked_rows};
 ghost use Rattle.book.specs.Runs.{Booked};
 ghost use Rattle.calls.specs.Offers.{ended};
-ghost use Rattle.output.specs.Rows.{on_rowson_rows, row_of};
+ghost use Rattle.output.specs.Rows.{on_rows, row_of};
 
 use crate::Call;
 use fault::Fault;

@@ -1,6 +1,6 @@
 //! The kinds of bench line.
 ghost use Rattle.std.specs.Prelude.{◌≡◌};
-ghost use Rattle.certificates.specs.Records.{kind_bykind_by};
+ghost use Rattle.certificates.specs.Records.{kind_by};
 
 /// What a line reports.
 #[derive(Clone, Copy, PartialEq, Eq, Debug)]

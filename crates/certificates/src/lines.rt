@@ -1,7 +1,7 @@
 //! The lines of an upload, whose bytes may be damaged.
 ghost use Rattle.std.specs.Prelude.{◌≡◌, ◌++◌, length};
 ghost use Rattle.std.specs.Option.{option_map, option_to_list};
-ghost use Rattle.certificates.specs.Lines.{FirstFeed, lines, without_returnwithout_return};
+ghost use Rattle.certificates.specs.Lines.{FirstFeed, lines, without_return};
 ghost use Rattle.std.specs.Iterator.{at_most};
 
 /// What is left of an upload.

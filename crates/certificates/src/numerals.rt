@@ -1,6 +1,6 @@
 //! Numbers in a field: 0 to 999 in decimal digits, with no sign and no leading zero.
 ghost use Rattle.std.specs.Prelude.{◌≡◌, Some};
-ghost use Rattle.certificates.specs.Numerals.{digits_behind, numeral_of, starts_well, with_digitdigits_behind, numeral_of, starts_well, with_digit};
+ghost use Rattle.certificates.specs.Numerals.{digits_behind, numeral_of, starts_well, with_digit};
 
 /// `value` with one digit more, if `byte` is a digit and the number stays below 1000.
 fn with_digit(value: u16, byte: u8) -> Option<u16>

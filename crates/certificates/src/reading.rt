@@ -1,6 +1,6 @@
 //! Reading a line: its kind, and a condition line's fields, cut by split at `;`.
 ghost use Rattle.std.specs.Prelude.{◌≡◌, Ok};
-ghost use Rattle.certificates.specs.Records.{cell, fields_of, kind_by, nth_fieldfields_of, kind_by, nth_field, read_told, told};
+ghost use Rattle.certificates.specs.Records.{cell, fields_of, kind_by, nth_field, read_told, told};
 
 use crate::conditions::Condition;
 use crate::kinds::Kind;

@@ -3,7 +3,7 @@ ghost use Rattle.std.specs.Prelude.{◌≡◌, true, [], MatchResult};
 ghost use Rattle.columns.specs.Meaning.{Opens, Reads, Refused};
 ghost use Rattle.columns.specs.Offsets.{rows_in, verdict};
 ghost use Rattle.columns.specs.Reading.{itself, lists};
-ghost use Rattle.source.specs.Verdicts.{accepts, fault_offault_of};
+ghost use Rattle.source.specs.Verdicts.{accepts, fault_of};
 
 use crate::lent::Lent;
 use fault::Fault;

@@ -1,7 +1,7 @@
 //! Position columns: signed 64-bit numbers, each valid or null.
 ghost use Rattle.std.specs.Prelude.{◌≡◌, true, [], MatchResult};
-ghost use Rattle.columns.specs.Positions.{enough_numbers, numbers, positions_in, positions_verdictenough_numbers, numbers, positions_in, positions_verdict};
-ghost use Rattle.source.specs.Verdicts.{accepts, fault_offault_of};
+ghost use Rattle.columns.specs.Positions.{enough_numbers, numbers, positions_in, positions_verdict};
+ghost use Rattle.source.specs.Verdicts.{accepts, fault_of};
 
 use bitmap::{covers, is_valid};
 use fault::Fault;

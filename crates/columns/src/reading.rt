@@ -1,9 +1,9 @@
 //! Opening and reading of offset columns, once for every width.
 ghost use Rattle.std.specs.Prelude.{◌≡◌, ◌+◌, ◌<◌, true, map, length, pos, None, slice_index_or};
 ghost use Rattle.columns.specs.Meaning.{Says};
-ghost use Rattle.columns.specs.Offsets.{enough, part, place_of, row_faultrow_fault, rows_in, verdict};
+ghost use Rattle.columns.specs.Offsets.{enough, part, place_of, row_fault, rows_in, verdict};
 ghost use Rattle.columns.specs.Reading.{lists};
-ghost use Rattle.source.specs.Verdicts.{accepts, first_faultfirst_fault};
+ghost use Rattle.source.specs.Verdicts.{accepts, first_fault};
 ghost use Rattle.std.specs.Option.{option_map};
 
 use crate::lent::Lent;

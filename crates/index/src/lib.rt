@@ -3,8 +3,8 @@
 ghost use Rattle.std.specs.Prelude.{◌≡◌, length};
 ghost use Rattle.std.specs.List.{slice_get};
 ghost use Rattle.split.specs.Fields.{part};
-ghost use Rattle.split.specs.Occurrences.{occurrences, occurrences_backoccurrences_back};
-ghost use Rattle.index.specs.Index.{after_place, before_placeafter_place, before_place, index_at};
+ghost use Rattle.split.specs.Occurrences.{occurrences, occurrences_back};
+ghost use Rattle.index.specs.Index.{after_place, before_place, index_at};
 ghost use Rattle.index.specs.Joining.{IndexJoinsFields};
 
 use occurrence::{occurrence_left, occurrence_right};

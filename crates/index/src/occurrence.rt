@@ -2,7 +2,7 @@
 ghost use Rattle.std.specs.Prelude.{◌≡◌, ◌+◌, ◌≤◌, length, IfSome};
 ghost use Rattle.std.specs.List.{slice_get};
 ghost use Rattle.search.specs.Places.{Stands};
-ghost use Rattle.split.specs.Occurrences.{occurrences, occurrences_backoccurrences_back};
+ghost use Rattle.split.specs.Occurrences.{occurrences, occurrences_back};
 
 use search::Searcher;
 use split::walk::{before_occurrences, past_occurrences};

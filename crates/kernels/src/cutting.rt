@@ -1,7 +1,7 @@
 //! Row rules: how one row is cut at a delimiter, by a number.
 ghost use Rattle.std.specs.Prelude.{◌≡◌, ℕ, List, length, take, drop, ℤ, IfOk, Result};
 ghost use Rattle.fault.specs.declared.Fault.{Fault as Faults};
-ghost use Rattle.kernels.specs.Cuts.{index_cut, none_refused, zero_refusedindex_cut, none_refused, zero_refused};
+ghost use Rattle.kernels.specs.Cuts.{index_cut, none_refused, zero_refused};
 ghost use Rattle.source.specs.Verdicts.{Verdict};
 ghost use Rattle.split.specs.Fields.{Part, answered, field_at};
 

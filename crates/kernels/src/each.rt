@@ -1,6 +1,6 @@
 //! Split and index with column operands: a delimiter and a number for each row.
 ghost use Rattle.std.specs.Prelude.{◌≡◌, ◌&&◌, ◌==◌};
-ghost use Rattle.kernels.specs.Cuts.{each_requesteach_request};
+ghost use Rattle.kernels.specs.Cuts.{each_request};
 ghost use Rattle.kernels.specs.Shifts.{shifted};
 ghost use Rattle.kernels.specs.Spans.{ends};
 

@@ -1,6 +1,6 @@
 //! Split and index with single operands.
 ghost use Rattle.std.specs.Prelude.{◌≡◌};
-ghost use Rattle.kernels.specs.Cuts.{single_requestsingle_request};
+ghost use Rattle.kernels.specs.Cuts.{single_request};
 ghost use Rattle.kernels.specs.Shifts.{shifted};
 ghost use Rattle.kernels.specs.Spans.{ends};
 ghost use Rattle.std.specs.Option.{option_map};

@@ -2,7 +2,7 @@
 ghost use Rattle.std.specs.Prelude.{◌≡◌, ◌&&◌, length, take, drop};
 ghost use Rattle.kernels.specs.Shifts.{shifted};
 ghost use Rattle.kernels.specs.Spans.{ends};
-ghost use Rattle.kernels.specs.Trims.{set_at, sets_cuttable, sets_fault, sets_part, trim_requestsets_cuttable, sets_fault, sets_part, trim_request};
+ghost use Rattle.kernels.specs.Trims.{set_at, sets_cuttable, sets_fault, sets_part, trim_request};
 ghost use Rattle.split.specs.Fields.{part};
 ghost use Rattle.std.specs.Option.{option_map};
 ghost use Rattle.trim.specs.Trim.{trimmed};

@@ -1,8 +1,8 @@
 //! The memory that an output writes to.
 ghost use Rattle.std.specs.Prelude.{◌≡◌, ◌+◌, ◌<◌, ◌≤◌, [], ◌∷◌, ◌++◌, length, take, pos, Some, None, MatchResult, nat_lt};
 ghost use Rattle.offset_layout.specs.Layout.{used};
-ghost use Rattle.offset_output.specs.Memories.{Added, Has, SameSizes, capacity_of, rows_of, rule_ofSameSizes, capacity_of, rows_of, rule_of};
-ghost use Rattle.output.specs.Rows.{nulls_innulls_in};
+ghost use Rattle.offset_output.specs.Memories.{Added, Has, SameSizes, capacity_of, rows_of, rule_of};
+ghost use Rattle.output.specs.Rows.{nulls_in};
 ghost use Rattle.std.specs.Option.{option_map};
 
 use crate::cells;

@@ -2,10 +2,10 @@
 ghost use Rattle.std.specs.Prelude.{◌≡◌, [], ◌++◌, map, length, None};
 ghost use Rattle.columns.specs.Offsets.{rows_in, verdict};
 ghost use Rattle.offset_layout.specs.Layout.{zeros};
-ghost use Rattle.offset_output.specs.Memories.{lists_of, rule_ofrule_of};
-ghost use Rattle.offset_output.specs.Stores.{Counted, Ordered, Sound, counted, image, kept_pieces, memory_of, pending_pieces, sizes_ofmemory_of, pending_pieces, sizes_of, store_rule, whole};
-ghost use Rattle.output.specs.Rows.{grown, nulls_innulls_in, row_of};
-ghost use Rattle.source.specs.Verdicts.{fault_offault_of};
+ghost use Rattle.offset_output.specs.Memories.{lists_of, rule_of};
+ghost use Rattle.offset_output.specs.Stores.{Counted, Ordered, Sound, counted, image, kept_pieces, memory_of, pending_pieces, sizes_of, store_rule, whole};
+ghost use Rattle.output.specs.Rows.{grown, nulls_in, row_of};
+ghost use Rattle.source.specs.Verdicts.{fault_of};
 ghost use Rattle.std.specs.Option.{option_map};
 
 use crate::extent::Extent;

@@ -3,10 +3,10 @@
 ghost use Rattle.std.specs.Prelude.{◌≡◌, ℕ, List, [], ◌++◌, map, length, None, Option};
 ghost use Rattle.output.specs.declared.Counts.{Counts};
 ghost use Rattle.output.specs.Pieces.{piece_of};
-ghost use Rattle.output.specs.Rows.{Comes, OwnFault, Rule, grown, nulls_innulls_in, row_of};
+ghost use Rattle.output.specs.Rows.{Comes, OwnFault, Rule, grown, nulls_in, row_of};
 ghost use Rattle.output.specs.Rows.{Piece as Held};
 ghost use Rattle.source.specs.Rows.{Row};
-ghost use Rattle.source.specs.Verdicts.{Verdict, fault_offault_of};
+ghost use Rattle.source.specs.Verdicts.{Verdict, fault_of};
 
 use fault::Fault;
 

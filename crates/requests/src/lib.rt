@@ -1,7 +1,7 @@
 //! A request for one row, of any kind, and its answer: what the vectors are replayed through.
 ghost use Rattle.std.specs.Prelude.{◌≡◌};
 ghost use Rattle.split.specs.Fields.{answered};
-ghost use Rattle.requests.specs.Answers.{answer_toanswer_to};
+ghost use Rattle.requests.specs.Answers.{answer_to};
 ghost use Rattle.requests.specs.Samples.{SamplesHold};
 
 use fault::Fault;

@@ -1,9 +1,9 @@
 //! Every call of a list, one after the other.
 ghost use Rattle.std.specs.Prelude.{◌≡◌, ◌<◌, [], map, length, get_or, IfOk, None, MatchResult, OnErr, OnOk, slice_index_or};
-ghost use Rattle.book.specs.Book.{after, after_allafter_all, answer, answers};
-ghost use Rattle.book.specs.Requests.{AllOver, Over, asked_by, asked_rowsasked_rows, nothing};
+ghost use Rattle.book.specs.Book.{after, after_all, answer, answers};
+ghost use Rattle.book.specs.Requests.{AllOver, Over, asked_by, asked_rows, nothing};
 ghost use Rattle.book.specs.Runs.{Booked, Runs};
-ghost use Rattle.output.specs.Rows.{nulls_in, on_rowsnulls_in, on_rows, row_of};
+ghost use Rattle.output.specs.Rows.{nulls_in, on_rows, row_of};
 
 use crate::CallList;
 use calls::making::make;

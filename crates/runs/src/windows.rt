@@ -1,9 +1,9 @@
 //! A call cut into calls on consecutive windows.
 ghost use Rattle.std.specs.Prelude.{◌≡◌, ◌^◌, ◌<◌, true, [], map, length, is_some, IfSome, IfNone, MatchOption, ◌==◌, ◌≢◌};
-ghost use Rattle.book.specs.Book.{after, after_allafter_all, answer, answers};
-ghost use Rattle.book.specs.Division.{Agreed, all_takenall_taken, parts, sum_told, total};
-ghost use Rattle.book.specs.Requests.{Over, asked_by, asked_rowsasked_rows};
-ghost use Rattle.output.specs.Rows.{on_rowson_rows, row_of};
+ghost use Rattle.book.specs.Book.{after, after_all, answer, answers};
+ghost use Rattle.book.specs.Division.{Agreed, all_taken, parts, sum_told, total};
+ghost use Rattle.book.specs.Requests.{Over, asked_by, asked_rows};
+ghost use Rattle.output.specs.Rows.{on_rows, row_of};
 ghost use Rattle.runs.specs.Covers.{covers};
 
 use crate::Divisible;

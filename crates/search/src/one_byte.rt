@@ -1,7 +1,7 @@
 //! The searcher for a delimiter of one byte: one pass over the text.
 ghost use Rattle.std.specs.Prelude.{◌≡◌, ◌<◌, [], ◌∷◌};
 ghost use Rattle.std.specs.Option.{option_map};
-ghost use Rattle.search.specs.Places.{if_one_byteif_one_byte};
+ghost use Rattle.search.specs.Places.{if_one_byte};
 
 use crate::Searcher;
 

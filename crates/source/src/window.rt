@@ -1,6 +1,6 @@
 //! Windows: some rows, one after the other.
 ghost use Rattle.std.specs.Prelude.{◌≡◌, ◌+◌, ◌-◌, min, nat_le};
-ghost use Rattle.source.specs.Rows.{meant, window, window_ofwindow_of};
+ghost use Rattle.source.specs.Rows.{meant, window, window_of};
 
 use crate::{Positions, Source};
 use fault::Fault;

@@ -1,7 +1,7 @@
 //! The walk over occurrences: from the left each search gets only what follows the last
 //! occurrence's end, from the right only what precedes the last occurrence.
 ghost use Rattle.std.specs.Prelude.{◌≡◌, ◌≤◌, length, IfSome};
-ghost use Rattle.split.specs.Occurrences.{end_after, occurrences, occurrences_back, start_beforeoccurrences_back, start_before};
+ghost use Rattle.split.specs.Occurrences.{end_after, occurrences, occurrences_back, start_before};
 
 use search::Searcher;
 

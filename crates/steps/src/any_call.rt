@@ -1,6 +1,6 @@
 //! A call of any kind.
 ghost use Rattle.std.specs.Prelude.{◌≡◌};
-ghost use Rattle.steps.specs.Requests.{call_requestcall_request};
+ghost use Rattle.steps.specs.Requests.{call_request};
 
 use calls::Call;
 use fault::Fault;

@@ -1,7 +1,7 @@
 //! A checker that is fed a text byte by byte, and tells whether it was well-formed.
 ghost use Rattle.std.specs.Prelude.{◌≡◌};
 ghost use Rattle.text.specs.Classes.{class_of};
-ghost use Rattle.text.specs.Steps.{next, run, is_startis_start};
+ghost use Rattle.text.specs.Steps.{next, run, is_start};
 ghost use Rattle.text.specs.declared.checker.State.TheVariants.{Start};
 
 use crate::classes::{Class, class_of};

@@ -2,7 +2,7 @@
 ghost use Rattle.std.specs.Prelude.{◌≡◌};
 ghost use Rattle.std.specs.Char.{char_set_contains};
 ghost use Rattle.std.specs.Str.{chars};
-ghost use Rattle.trim.specs.Ends.{head_size, tail_sizehead_size, tail_size};
+ghost use Rattle.trim.specs.Ends.{head_size, tail_size};
 
 // By whole characters: a byte of one may stand in another.
 fn holds(set: &str, c: char) -> bool

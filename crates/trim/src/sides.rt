@@ -1,6 +1,6 @@
 //! The two ends of a row, and the trim that is asked for at each.
 ghost use Rattle.std.specs.Prelude.{◌≡◌};
-ghost use Rattle.trim.specs.Ends.{head_size, tail_sizehead_size, tail_size};
+ghost use Rattle.trim.specs.Ends.{head_size, tail_size};
 ghost use Rattle.trim.specs.Rule.{Trims};
 ghost use Rattle.trim.specs.Trim.{trimmed};
 

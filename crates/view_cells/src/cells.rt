@@ -1,7 +1,7 @@
 //! The view of a text: with the text itself, or with its place in a buffer.
 ghost use Rattle.std.specs.Prelude.{◌≡◌, ◌+◌, ◌<◌, ◌≤◌, length};
 ghost use Rattle.std.proofs.Math.Seq.{paste};
-ghost use Rattle.view_cells.specs.Views.{long_view, short_viewlong_view, short_view, view_of, word_bytes};
+ghost use Rattle.view_cells.specs.Views.{long_view, short_view, view_of, word_bytes};
 
 use writing::bytes::{put_text, wipe};
 

@@ -1,10 +1,10 @@
 //! One row more.
 ghost use Rattle.std.specs.Prelude.{◌≡◌, ◌<◌, ◌≤◌, [], ◌∷◌, ◌++◌, length, Some, None, MatchResult};
-ghost use Rattle.source.specs.Verdicts.{fault_offault_of};
+ghost use Rattle.source.specs.Verdicts.{fault_of};
 ghost use Rattle.std.specs.Option.{option_map};
-ghost use Rattle.view_memory.specs.Layout.{buffers_ofbuffers_of};
-ghost use Rattle.view_memory.specs.Memories.{Added, Counted, Has, SameSizes, rows_of, rule_ofrule_of};
-ghost use Rattle.view_memory.specs.Rule.{capacity, end_capacity, text_verdictend_capacity, text_verdict};
+ghost use Rattle.view_memory.specs.Layout.{buffers_of};
+ghost use Rattle.view_memory.specs.Memories.{Added, Counted, Has, SameSizes, rows_of, rule_of};
+ghost use Rattle.view_memory.specs.Rule.{capacity, end_capacity, text_verdict};
 
 use crate::memory::Memory;
 use fault::Fault;

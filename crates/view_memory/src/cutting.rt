@@ -1,6 +1,6 @@
 //! Fewer rows, and none.
 ghost use Rattle.std.specs.Prelude.{◌≡◌, ◌<◌, ◌≤◌, [], length, take};
-ghost use Rattle.view_memory.specs.Holding.{ends_cutends_cut};
+ghost use Rattle.view_memory.specs.Holding.{ends_cut};
 ghost use Rattle.view_memory.specs.Memories.{Counted, Has, SameSizes, rows_of};
 
 use crate::memory::Memory;

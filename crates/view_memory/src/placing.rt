@@ -1,9 +1,9 @@
 //! Where a text goes, and whether it may.
 ghost use Rattle.std.specs.Prelude.{◌≡◌, ◌&&◌, length, nat_le, nat_lt};
 ghost use Rattle.std.specs.Option.{option_map};
-ghost use Rattle.view_memory.specs.Layout.{buffer_for, buffers_of, filled, offset_forbuffer_for, buffers_of, filled, offset_for, opens};
-ghost use Rattle.view_memory.specs.Memories.{Counted, Has, rows_of, rule_ofrule_of};
-ghost use Rattle.view_memory.specs.Rule.{capacity, end_capacity, text_verdictend_capacity, text_verdict};
+ghost use Rattle.view_memory.specs.Layout.{buffer_for, buffers_of, filled, offset_for, opens};
+ghost use Rattle.view_memory.specs.Memories.{Counted, Has, rows_of, rule_of};
+ghost use Rattle.view_memory.specs.Rule.{capacity, end_capacity, text_verdict};
 
 use crate::memory::Memory;
 use fault::Fault;

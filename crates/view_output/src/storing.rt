@@ -1,10 +1,10 @@
 //! What an output does to the rows in its memory.
 ghost use Rattle.std.specs.Prelude.{◌≡◌, [], ◌++◌, map, length, None};
 ghost use Rattle.output.specs.Pieces.{piece_of};
-ghost use Rattle.output.specs.Rows.{copied, grown, nulls_innulls_in, row_of};
-ghost use Rattle.source.specs.Verdicts.{fault_offault_of};
-ghost use Rattle.view_memory.specs.Memories.{Counted, Has, column_of, counts_of, rule_ofcolumn_of, counts_of, rule_of};
-ghost use Rattle.view_output.specs.Stores.{Sound, image, kept_pieces, kept_rows, memory_of, pending_pieces, sizes_ofkept_rows, memory_of, pending_pieces, sizes_of};
+ghost use Rattle.output.specs.Rows.{copied, grown, nulls_in, row_of};
+ghost use Rattle.source.specs.Verdicts.{fault_of};
+ghost use Rattle.view_memory.specs.Memories.{Counted, Has, column_of, counts_of, rule_of};
+ghost use Rattle.view_output.specs.Stores.{Sound, image, kept_pieces, kept_rows, memory_of, pending_pieces, sizes_of};
 ghost use Rattle.views.specs.Layout.{rows_in};
 ghost use Rattle.views.specs.Verdict.{verdict};
 

@@ -1,8 +1,8 @@
 //! View outputs.
 ghost use Rattle.std.specs.Prelude.{◌≡◌, [], ◌++◌, map, length, None};
-ghost use Rattle.output.specs.Rows.{copied, nulls_innulls_in, row_of};
-ghost use Rattle.view_memory.specs.Memories.{Counted, column_of, counts_of, rule_ofcolumn_of, counts_of, rule_of};
-ghost use Rattle.view_output.specs.Stores.{Fitting, Written, all_rows, image, kept_pieces, kept_rows, memory_of, pending_pieces, sizes_ofall_rows, image, kept_pieces, kept_rows, memory_of, pending_pieces, sizes_of};
+ghost use Rattle.output.specs.Rows.{copied, nulls_in, row_of};
+ghost use Rattle.view_memory.specs.Memories.{Counted, column_of, counts_of, rule_of};
+ghost use Rattle.view_output.specs.Stores.{Fitting, Written, all_rows, image, kept_pieces, kept_rows, memory_of, pending_pieces, sizes_of};
 ghost use Rattle.views.specs.Layout.{rows_in};
 ghost use Rattle.views.specs.Verdict.{verdict};
 

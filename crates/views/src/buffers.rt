@@ -1,8 +1,8 @@
 //! Buffers, and the views that point into them.
 ghost use Rattle.std.specs.Prelude.{◌≡◌, ◌<◌, true, length, None};
-ghost use Rattle.views.specs.Layout.{buffer_startbuffer_start, fits, in_buffer, part, place, size, text};
+ghost use Rattle.views.specs.Layout.{buffer_start, fits, in_buffer, part, place, size, text};
 ghost use Rattle.views.specs.Reading.{held};
-ghost use Rattle.views.specs.Verdict.{end_holds, ends_faultend_holds, ends_fault};
+ghost use Rattle.views.specs.Verdict.{end_holds, ends_fault};
 
 use crate::bytes::{is_blank, word};
 use crate::lent::Buffers;

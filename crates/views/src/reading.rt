@@ -1,11 +1,11 @@
 //! Opening and reading of view columns.
 ghost use Rattle.std.specs.Prelude.{◌≡◌, ◌+◌, ◌*◌, ◌<◌, ◌≤◌, true, length, IfSome, None, slice_index_or};
-ghost use Rattle.source.specs.Verdicts.{accepts, first_faultfirst_fault};
+ghost use Rattle.source.specs.Verdicts.{accepts, first_fault};
 ghost use Rattle.std.specs.Option.{option_map};
-ghost use Rattle.views.specs.Layout.{LiesIn, places_inplaces_in, rows_in, text, view};
+ghost use Rattle.views.specs.Layout.{LiesIn, places_in, rows_in, text, view};
 ghost use Rattle.views.specs.Meaning.{Says};
 ghost use Rattle.views.specs.Reading.{held, lists};
-ghost use Rattle.views.specs.Verdict.{ends_fault, enough, row_faultends_fault, enough, row_fault, verdict};
+ghost use Rattle.views.specs.Verdict.{ends_fault, enough, row_fault, verdict};
 
 use crate::bytes::word;
 use crate::lent::Lent;

@@ -1,7 +1,7 @@
 //! View columns.
 ghost use Rattle.std.specs.Prelude.{◌≡◌, true, [], IfSome, None, MatchResult, slice_index_or};
-ghost use Rattle.source.specs.Verdicts.{accepts, fault_offault_of};
-ghost use Rattle.views.specs.Layout.{LiesIn, places_inplaces_in, rows_in, text, view};
+ghost use Rattle.source.specs.Verdicts.{accepts, fault_of};
+ghost use Rattle.views.specs.Layout.{LiesIn, places_in, rows_in, text, view};
 ghost use Rattle.views.specs.Meaning.{Opens, Refused};
 ghost use Rattle.views.specs.Reading.{held, lists};
 ghost use Rattle.views.specs.Verdict.{verdict};
