@@ -7,8 +7,8 @@ use Rattle.text.proofs.Forms.{joining_formed, utf8_from_formed}
 use Rattle.text.proofs.Std.{utf8_from_well_formed, well_formed_from_utf8}
 use Rattle.text.proofs.open_text.Goals as goal
 
-pub from-utf8-unchecked-requires : goal.from-utf8-unchecked-requires
-from-utf8-unchecked-requires c = utf8_from_formed _ (sym c.well-formed-2.ensures.value ∙ c.if-not-well-formed.false)
+pub from_utf8_unchecked-requires : goal.from_utf8_unchecked-requires
+from_utf8_unchecked-requires c = utf8_from_formed _ (sym c.well_formed-2.ensures.value ∙ c.if-not-well_formed.false)
 
 refused : (bs : List ℕ) (b : Bool) → b ≡ formed bs → b ≡ false → Err (Malformed 0) ≡ text_of bs
 refused bs b e f = ap (λ (x : Bool). cond x (Ok bs) (Err (Malformed 0))) (sym f ∙ e)
@@ -16,9 +16,9 @@ refused bs b e f = ap (λ (x : Bool). cond x (Ok bs) (Err (Malformed 0))) (sym f
 accepted : (bs xs : List ℕ) (b : Bool) → b ≡ formed bs → b ≡ true → xs ≡ bs → Ok xs ≡ text_of bs
 accepted bs xs b e t s = ap Ok s ∙ ap (λ (x : Bool). cond x (Ok bs) (Err (Malformed 0))) (sym t ∙ e)
 
-pub returns-then-not-well-formed : goal.returns-then-not-well-formed
-returns-then-not-well-formed c = record {
-  answer = refused _ _ c.well-formed-2.ensures.value c.if-not-well-formed.true;
+pub returns-then-not-well_formed : goal.returns-then-not-well_formed
+returns-then-not-well_formed c = record {
+  answer = refused _ _ c.well_formed-2.ensures.value c.if-not-well_formed.true;
   sides = around_part;
   joins = joining_formed;
   same = λ bs. (utf8_from_well_formed bs, well_formed_from_utf8 bs);
@@ -26,7 +26,7 @@ returns-then-not-well-formed c = record {
 
 pub returns : goal.returns
 returns c = record {
-  answer = accepted _ _ _ c.well-formed-2.ensures.value c.if-not-well-formed.false c.from-utf8-unchecked.ensures;
+  answer = accepted _ _ _ c.well_formed-2.ensures.value c.if-not-well_formed.false c.from_utf8_unchecked.ensures;
   sides = around_part;
   joins = joining_formed;
   same = λ bs. (utf8_from_well_formed bs, well_formed_from_utf8 bs);

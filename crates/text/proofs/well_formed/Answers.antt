@@ -9,5 +9,5 @@ pub returns : goal.returns
 unfolding formed
 returns c =
     let xs = c.args.bytes.now in
-    let e : c.is-whole.result ≡ formed xs = c.is-whole.ensures ∙ ap is_start (c.feed.ensures ∙ ap (λ s. run s xs) c.new-checker.ensures) in
+    let e : c.is_whole.result ≡ formed xs = c.is_whole.ensures ∙ ap is_start (c.feed.ensures ∙ ap (λ s. run s xs) c.new-checker.ensures) in
     record { value = e; decides = subst (λ (b : Bool). Decides b (WellFormed xs)) (sym e) (formed_decides xs) }

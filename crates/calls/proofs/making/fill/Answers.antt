@@ -9,8 +9,8 @@ use Rattle.calls.specs.Offers.{ended}
 use Rattle.calls.proofs.Filling.{comes_over, pieces_bad, pieces_refused, pieces_taken, rows_bad, rows_refused, rows_taken}
 use Rattle.calls.proofs.making.fill.Goals as goal
 
-pub returns-in-err-piece : goal.returns-in-err-piece
-returns-in-err-piece g c =
+pub returns-in_err-piece : goal.returns-in_err-piece
+returns-in_err-piece g c =
     let O = g.row.O-Output in
     let o = c.args.out.now in
     let q = g.C.Call.request c.args.call.now in
@@ -18,10 +18,10 @@ returns-in-err-piece g c =
     let k = c.loop-row.row in
     let h : k < q.size = omega arith in
     let ps = O.kept o ++ O.pending c.loop-row.out in
-    let p = err_from_is_err_and c.from-residual.result c.from-residual.ensures.1 in
-    let fault = c.in-err-piece.field-0.0 in
-    let is : c.from-residual.result ≡ Err fault = p.1 ∙ ap Err p.2 in
-    let bad : q.offer k ≡ Err fault = sym c.in-err-piece.ensures.offer in
+    let p = err_from_is_err_and c.from_residual.result c.from_residual.ensures.1 in
+    let fault = c.in_err-piece.field-0.0 in
+    let is : c.from_residual.result ≡ Err fault = p.1 ∙ ap Err p.2 in
+    let bad : q.offer k ≡ Err fault = sym c.in_err-piece.ensures.offer in
     record {
       kept = i.0;
       rule = i.1;
@@ -32,8 +32,8 @@ returns-in-err-piece g c =
       rows = λ over. ap (λ r. ended r (map row_of ps) k) is ∙ sym (rows_bad q k h (O.rule o) ps (O.taken o) fault bad) ∙ i.6 over;
     }
 
-pub returns-in-err-add : goal.returns-in-err-add
-returns-in-err-add g c =
+pub returns-in_err-add : goal.returns-in_err-add
+returns-in_err-add g c =
     let O = g.row.O-Output in
     let o = c.args.out.now in
     let q = g.C.Call.request c.args.call.now in
@@ -41,12 +41,12 @@ returns-in-err-add g c =
     let k = c.loop-row.row in
     let h : k < q.size = omega arith in
     let ps = O.kept o ++ O.pending c.loop-row.out in
-    let p = err_from_is_err_and c.from-residual-in-err-add.result c.from-residual-in-err-add.ensures.1 in
-    let fault = c.in-err-add.field-0.0 in
-    let is : c.from-residual-in-err-add.result ≡ Err fault = p.1 ∙ ap Err p.2 in
-    let piece = piece_of c.in-ok-piece.piece in
-    let row = c.in-ok-piece.ensures in
-    let a = c.in-err-add.ensures in
+    let p = err_from_is_err_and c.from_residual-in_err-add.result c.from_residual-in_err-add.ensures.1 in
+    let fault = c.in_err-add.field-0.0 in
+    let is : c.from_residual-in_err-add.result ≡ Err fault = p.1 ∙ ap Err p.2 in
+    let piece = piece_of c.in_ok-piece.piece in
+    let row = c.in_ok-piece.ensures in
+    let a = c.in_err-add.ensures in
     let v : O.rule o (map row_of ps) (row_of (O.taken o piece)) ≡ Some fault = cc in
     let left : O.kept o ++ O.pending c.add.new.self ≡ ps = ap (λ r. O.kept o ++ r) a.pending in
     record {
@@ -70,9 +70,9 @@ loop-row-preserved g c =
     let k = c.loop-row.row in
     let h : k < q.size = omega arith in
     let ps = O.kept o ++ O.pending c.loop-row.out in
-    let piece = piece_of c.in-ok-piece.piece in
-    let row = c.in-ok-piece.ensures in
-    let a = c.in-ok-add.ensures in
+    let piece = piece_of c.in_ok-piece.piece in
+    let row = c.in_ok-piece.ensures in
+    let a = c.in_ok-add.ensures in
     let v : O.rule o (map row_of ps) (row_of (O.taken o piece)) ≡ None = cc in
     let more : O.kept o ++ O.pending c.add.new.self ≡ ps ++ O.taken o piece ∷ [] =
     ap (λ r. O.kept o ++ r) (a.pending ∙ ap (λ f. O.pending c.loop-row.out ++ f piece ∷ []) i.3) ∙ sym (append_assoc (O.kept o) (O.pending c.loop-row.out) (O.taken o piece ∷ [])) in (

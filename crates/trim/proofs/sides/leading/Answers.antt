@@ -10,5 +10,5 @@ returns-in-len1 c =
     let one : length set ≡ 1 = search rules in
     let s : IsUtf8 set = search rules in
     let u : IsUtf8 row = search rules in
-    let e : c.leading-bytes.result ≡ prefix_len (λ x. eqb x (get_or set 0 0)) row = search rules in
+    let e : c.leading_bytes.result ≡ prefix_len (λ x. eqb x (get_or set 0 0)) row = search rules in
     e ∙ head_size_one set row s u one

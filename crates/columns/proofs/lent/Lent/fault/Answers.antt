@@ -6,15 +6,15 @@ use Rattle.columns.specs.Reading.{lists}
 use Rattle.columns.proofs.Meaning.{says}
 use Rattle.columns.proofs.lent.Lent.fault.Goals as goal
 
-pub returns-then-not-is-enough : goal.returns-then-not-is-enough
-returns-then-not-is-enough g c =
+pub returns-then-not-is_enough : goal.returns-then-not-is_enough
+returns-then-not-is_enough g c =
     let m = lists g.W.Width.number c.args.self.now in
-    let e : Some ShortList ≡ verdict c.args.rows m = ap (λ b. then (unless b ShortList) (first_fault (row_fault m) c.args.rows)) c.if-not-is-enough.ensures in
+    let e : Some ShortList ≡ verdict c.args.rows m = ap (λ b. then (unless b ShortList) (first_fault (row_fault m) c.args.rows)) c.if-not-is_enough.ensures in
     record { answer = e; meaning = says c.args.rows m (Some ShortList) e }
 
 pub returns : goal.returns
 returns g c =
     let m = lists g.W.Width.number c.args.self.now in
-    let e : c.rows-fault.result ≡ verdict c.args.rows m =
-    c.rows-fault.ensures ∙ ap (λ b. then (unless b ShortList) (first_fault (row_fault m) c.args.rows)) c.if-not-is-enough.ensures in
-    record { answer = e; meaning = says c.args.rows m c.rows-fault.result e }
+    let e : c.rows_fault.result ≡ verdict c.args.rows m =
+    c.rows_fault.ensures ∙ ap (λ b. then (unless b ShortList) (first_fault (row_fault m) c.args.rows)) c.if-not-is_enough.ensures in
+    record { answer = e; meaning = says c.args.rows m c.rows_fault.result e }

@@ -6,8 +6,8 @@ use Rattle.columns.specs.Reading.{lists}
 use Rattle.columns.proofs.Opened.{room_from_enough}
 use Rattle.columns.proofs.lent.Lent.rows_fault.Goals as goal
 
-pub row-fault-requires : goal.row-fault-requires
-row-fault-requires g c =
+pub row_fault-requires : goal.row_fault-requires
+row_fault-requires g c =
     let m = lists g.W.Width.number c.args.self.now in
     let h = room_from_enough c.args.rows m c.loop-row.row c.requires c.loop-row-test.true in
     let l = length-map c.args.self.now.offsets.now g.W.Width.number in
@@ -21,4 +21,4 @@ returns-in-Some g c =
 pub loop-row-preserved : goal.loop-row-preserved
 loop-row-preserved g c =
     let f = row_fault (lists g.W.Width.number c.args.self.now) in
-    first_fault_more f c.loop-row.row c.loop-row.invariant ∙ sym c.in-default.ensures
+    first_fault_more f c.loop-row.row c.loop-row.invariant ∙ sym c.in_default.ensures

@@ -13,10 +13,10 @@ returns-then-row-rows g c =
     let m = lists g.W.Width.number c.args.self.now in
     sym (past_rows_by (row_at m) c.args.rows c.args.row None (omega arith))
 
-pub returns-then-not-is-valid : goal.returns-then-not-is-valid
-returns-then-not-is-valid g c =
+pub returns-then-not-is_valid : goal.returns-then-not-is_valid
+returns-then-not-is_valid g c =
     let m = lists g.W.Width.number c.args.self.now in
-    ap (λ v. cond v (part m c.args.row) None) c.if-not-is-valid.ensures ∙ sym (at_rows_by (row_at m) c.args.rows c.args.row None (omega arith))
+    ap (λ v. cond v (part m c.args.row) None) c.if-not-is_valid.ensures ∙ sym (at_rows_by (row_at m) c.args.rows c.args.row None (omega arith))
 
 pub part-requires : goal.part-requires
 part-requires g c =
@@ -25,19 +25,19 @@ part-requires g c =
     let l = length-map c.args.self.now.offsets.now g.W.Width.number in
     omega arith
 
-pub returns-in-err-bytes : goal.returns-in-err-bytes
-returns-in-err-bytes g c =
+pub returns-in_err-bytes : goal.returns-in_err-bytes
+returns-in_err-bytes g c =
     let m = lists g.W.Width.number c.args.self.now in
-    ap (option_map (λ x. x.now)) c.from-residual.ensures
-    ∙ (c.in-err-bytes.ensures ∙ (ap (λ v. cond v (part m c.args.row) None) c.if-not-is-valid.ensures ∙ sym (at_rows_by (row_at m) c.args.rows c.args.row None (omega arith))))
+    ap (option_map (λ x. x.now)) c.from_residual.ensures
+    ∙ (c.in_err-bytes.ensures ∙ (ap (λ v. cond v (part m c.args.row) None) c.if-not-is_valid.ensures ∙ sym (at_rows_by (row_at m) c.args.rows c.args.row None (omega arith))))
 
-pub from-utf8-unchecked-requires : goal.from-utf8-unchecked-requires
-from-utf8-unchecked-requires g c =
+pub from_utf8_unchecked-requires : goal.from_utf8_unchecked-requires
+from_utf8_unchecked-requires g c =
     let m = lists g.W.Width.number c.args.self.now in
-    utf8_from_formed _ (row_formed c.args.rows m c.requires c.args.row _ (omega arith) (sym c.if-not-is-valid.ensures) (sym c.in-ok-bytes.ensures))
+    utf8_from_formed _ (row_formed c.args.rows m c.requires c.args.row _ (omega arith) (sym c.if-not-is_valid.ensures) (sym c.in_ok-bytes.ensures))
 
 pub returns : goal.returns
 returns g c =
     let m = lists g.W.Width.number c.args.self.now in
-    ap Some c.from-utf8-unchecked.ensures
-    ∙ (c.in-ok-bytes.ensures ∙ (ap (λ v. cond v (part m c.args.row) None) c.if-not-is-valid.ensures ∙ sym (at_rows_by (row_at m) c.args.rows c.args.row None (omega arith))))
+    ap Some c.from_utf8_unchecked.ensures
+    ∙ (c.in_ok-bytes.ensures ∙ (ap (λ v. cond v (part m c.args.row) None) c.if-not-is_valid.ensures ∙ sym (at_rows_by (row_at m) c.args.rows c.args.row None (omega arith))))

@@ -6,13 +6,13 @@ use Rattle.columns.proofs.position_column.PositionColumnPositions.position.Goals
 pub returns-then-row-self : goal.returns-then-row-self
 returns-then-row-self c = let s = c.args.self.now in past_end s.rows (numbers s.values s.validity) c.args.row (omega arith)
 
-pub returns-then-not-is-valid : goal.returns-then-not-is-valid
-returns-then-not-is-valid c =
+pub returns-then-not-is_valid : goal.returns-then-not-is_valid
+returns-then-not-is_valid c =
     let s = c.args.self.now in
-    at_null s.rows (numbers s.values s.validity) c.args.row (omega arith) c.if-not-is-valid.ensures
+    at_null s.rows (numbers s.values s.validity) c.args.row (omega arith) c.if-not-is_valid.ensures
 
-pub offset-bounds-self-row : goal.offset-bounds-self-row
-offset-bounds-self-row c =
+pub offset_bounds-self-row : goal.offset_bounds-self-row
+offset_bounds-self-row c =
     let s = c.args.self.now in
     let h = has_values s.rows (numbers s.values s.validity) s.sound in
     search rules
@@ -26,4 +26,4 @@ bounds-self-row c =
 pub returns : goal.returns
 returns c =
     let s = c.args.self.now in
-    at_number s.rows (numbers s.values s.validity) c.args.row _ (omega arith) c.if-not-is-valid.ensures (search rules)
+    at_number s.rows (numbers s.values s.validity) c.args.row _ (omega arith) c.if-not-is_valid.ensures (search rules)

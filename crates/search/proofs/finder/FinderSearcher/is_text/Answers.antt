@@ -4,4 +4,4 @@ use Rattle.text.proofs.Std.{well_formed_from_utf8}
 use Rattle.search.proofs.finder.FinderSearcher.is_text.Goals as goal
 
 pub returns : goal.returns
-returns c = subst WellFormed c.as-bytes-text.ensures.value (well_formed_from_utf8 _ c.as-bytes-text.ensures.utf8)
+returns c = subst WellFormed c.as_bytes-text.ensures.value (well_formed_from_utf8 _ c.as_bytes-text.ensures.utf8)

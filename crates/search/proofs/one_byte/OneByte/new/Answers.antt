@@ -3,8 +3,8 @@ use Rattle.search.specs.Places.{if_one_byte}
 use Rattle.search.proofs.Single.{one_is_ascii, only}
 use Rattle.search.proofs.one_byte.OneByte.new.Goals as goal
 
-pub invariant-of-result : goal.invariant-of-result
-invariant-of-result c = (one_is_ascii _ c.if-bytes-ne1.false c.as-bytes-bytes.ensures.utf8, tt)
+pub invariant_of-result : goal.invariant_of-result
+invariant_of-result c = (one_is_ascii _ c.if-bytes-ne1.false c.as_bytes-bytes.ensures.utf8, tt)
 
 one : (xs d : List ℕ) → xs ≡ d → length xs ≡ 1 → Some (get_or xs 0 0 ∷ []) ≡ if_one_byte d
 one xs d e l =
@@ -17,7 +17,7 @@ none xs d e l =
     ap (λ (b : Bool). cond b (Some d) None) (sym f)
 
 pub returns-then-bytes-ne1 : goal.returns-then-bytes-ne1
-returns-then-bytes-ne1 c = none _ _ c.as-bytes-bytes.ensures.value c.if-bytes-ne1.true
+returns-then-bytes-ne1 c = none _ _ c.as_bytes-bytes.ensures.value c.if-bytes-ne1.true
 
 pub returns : goal.returns
-returns c = one _ _ c.as-bytes-bytes.ensures.value c.if-bytes-ne1.false
+returns c = one _ _ c.as_bytes-bytes.ensures.value c.if-bytes-ne1.false

@@ -9,13 +9,13 @@ use Rattle.views.proofs.lent.Buffers.ends_fault.Goals as goal
 pub loop-buffer-preserved : goal.loop-buffer-preserved
 unfolding end_fault
 loop-buffer-preserved c =
-    first_fault_more (end_fault (held c.args.self.now)) c.loop-buffer.buffer c.loop-buffer.invariant ∙ ap (λ b. unless b BufferEnd) (sym c.if-not-end-holds.ensures)
+    first_fault_more (end_fault (held c.args.self.now)) c.loop-buffer.buffer c.loop-buffer.invariant ∙ ap (λ b. unless b BufferEnd) (sym c.if-not-end_holds.ensures)
 
-pub returns-then-not-end-holds : goal.returns-then-not-end-holds
+pub returns-then-not-end_holds : goal.returns-then-not-end_holds
 unfolding end_fault
-returns-then-not-end-holds c =
+returns-then-not-end_holds c =
     let f = end_fault (held c.args.self.now) in
-    sym (first_fault_found f BufferEnd c.loop-buffer.buffer _ c.loop-buffer-test.true c.loop-buffer.invariant (ap (λ b. unless b BufferEnd) (sym c.if-not-end-holds.ensures)))
+    sym (first_fault_found f BufferEnd c.loop-buffer.buffer _ c.loop-buffer-test.true c.loop-buffer.invariant (ap (λ b. unless b BufferEnd) (sym c.if-not-end_holds.ensures)))
 
 pub returns : goal.returns
 returns c =

@@ -16,7 +16,7 @@ returns-then-size-le12 c =
     let v = c.args.view.now in
     let z : 16 - (4 + c.word-size.result) ≡ 12 - size v = omega arith in
     let e : c.word-size.result ≡ size v = c.word-size.ensures in
-    c.is-blank.ensures
+    c.is_blank.ensures
     ∙ (ap (λ (k : ℕ). blank (take k (drop (4 + c.word-size.result) v))) z ∙ (ap (λ (k : ℕ). blank (take (12 - size v) (drop (4 + k) v))) e ∙ sym (fits_short (held c.args.self.now) v (omega arith))))
 
 pub returns-then-not-holds : goal.returns-then-not-holds
@@ -28,5 +28,5 @@ returns c =
     let d = held c.args.self.now in
     let v = c.args.view.now in
     let big : 12 < size v = omega arith in
-    let q : take (4 - 0) c.long-text.result.now ≡ part (place d v) 4 d.bytes = ap (take 4) c.long-text.ensures.value ∙ take-take 4 (size v) _ (omega arith) in
+    let q : take (4 - 0) c.long_text.result.now ≡ part (place d v) 4 d.bytes = ap (take 4) c.long_text.ensures.value ∙ take-take 4 (size v) _ (omega arith) in
     fits_compared d v _ _ _ big (omega arith) (sym c.if-not-holds.ensures) refl q (slice_eq-Decides Decides-eqb _ _ _ c.eq.ensures)

@@ -25,9 +25,9 @@ pub returns-then-row-rows : goal.returns-then-row-rows
 returns-then-row-rows c =
     record { answer = sym (past_rows_by (place_at (lists c.args.self.now)) c.args.rows c.args.row None (omega arith)); lies = tt }
 
-pub returns-then-not-is-valid : goal.returns-then-not-is-valid
-returns-then-not-is-valid c =
-    record { answer = null_row (lists c.args.self.now) c.args.rows c.args.row (omega arith) c.if-not-is-valid.ensures; lies = tt }
+pub returns-then-not-is_valid : goal.returns-then-not-is_valid
+returns-then-not-is_valid c =
+    record { answer = null_row (lists c.args.self.now) c.args.rows c.args.row (omega arith) c.if-not-is_valid.ensures; lies = tt }
 
 pub view-view-requires : goal.view-view-requires
 view-view-requires c =
@@ -47,10 +47,10 @@ returns c =
     let s : c.word.result ≡ size v = c.word.ensures ∙ ap size c.view-view.ensures.value in
     let b : c.word-2.result ≡ buffer v = c.word-2.ensures ∙ ap buffer c.view-view.ensures.value in
     let o : c.word-3.result ≡ offset v = c.word-3.ensures ∙ ap offset c.view-view.ensures.value in
-    let f : fits m.buffers v ≡ true = row_fits c.args.rows m c.requires c.args.row (omega arith) (sym c.if-not-is-valid.ensures) in
+    let f : fits m.buffers v ≡ true = row_fits c.args.rows m c.requires c.args.row (omega arith) (sym c.if-not-is_valid.ensures) in
     let h : LiesIn m.buffers (text m.buffers v) (buffer v) (offset v) = lies_in m.buffers v (has_ends c.args.rows m c.requires) f (omega arith) in
     record {
-      answer = ap (λ x. Some (x, c.word-3.result)) b ∙ (ap (λ x. Some (buffer v, x)) o ∙ long_row m c.args.rows c.args.row (omega arith) c.if-not-is-valid.ensures (omega arith));
+      answer = ap (λ x. Some (x, c.word-3.result)) b ∙ (ap (λ x. Some (buffer v, x)) o ∙ long_row m c.args.rows c.args.row (omega arith) c.if-not-is_valid.ensures (omega arith));
       lies =
           subst (λ x. LiesIn m.buffers (text m.buffers v) x c.word-3.result) (sym b) (subst (λ x. LiesIn m.buffers (text m.buffers v) (buffer v) x) (sym o) h);
     }

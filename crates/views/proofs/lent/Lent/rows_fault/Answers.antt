@@ -5,8 +5,8 @@ use Rattle.views.specs.Verdict.{row_fault}
 use Rattle.views.proofs.Views.{room_from_enough}
 use Rattle.views.proofs.lent.Lent.rows_fault.Goals as goal
 
-pub row-fault-requires : goal.row-fault-requires
-row-fault-requires c =
+pub row_fault-requires : goal.row_fault-requires
+row_fault-requires c =
     record {
       room = room_from_enough c.args.rows (lists c.args.self.now) c.loop-row.row c.requires.room c.loop-row-test.true;
       ends = c.requires.ends;
@@ -19,4 +19,4 @@ returns-in-Some c =
 
 pub loop-row-preserved : goal.loop-row-preserved
 loop-row-preserved c =
-    first_fault_more (row_fault (lists c.args.self.now)) c.loop-row.row c.loop-row.invariant ∙ sym c.in-default.ensures
+    first_fault_more (row_fault (lists c.args.self.now)) c.loop-row.row c.loop-row.invariant ∙ sym c.in_default.ensures

@@ -11,10 +11,10 @@ use Rattle.views.proofs.lent.Lent.text.Goals as goal
 pub returns-then-row-rows : goal.returns-then-row-rows
 returns-then-row-rows c = sym (past_rows_by (row_at (lists c.args.self.now)) c.args.rows c.args.row None (omega arith))
 
-pub returns-then-not-is-valid : goal.returns-then-not-is-valid
-returns-then-not-is-valid c =
+pub returns-then-not-is_valid : goal.returns-then-not-is_valid
+returns-then-not-is_valid c =
     let m = lists c.args.self.now in
-    ap (λ b. cond b (Some (text m.buffers (view m c.args.row))) None) c.if-not-is-valid.ensures ∙ sym (at_rows_by (row_at m) c.args.rows c.args.row None (omega arith))
+    ap (λ b. cond b (Some (text m.buffers (view m c.args.row))) None) c.if-not-is_valid.ensures ∙ sym (at_rows_by (row_at m) c.args.rows c.args.row None (omega arith))
 
 pub view-requires : goal.view-requires
 view-requires c =
@@ -27,17 +27,17 @@ text-bytes-requires c =
     record {
       view = c.view.ensures.len;
       ends = has_ends c.args.rows m c.requires;
-      fits = ap (fits m.buffers) c.view.ensures.value ∙ row_fits c.args.rows m c.requires c.args.row (omega arith) (sym c.if-not-is-valid.ensures);
+      fits = ap (fits m.buffers) c.view.ensures.value ∙ row_fits c.args.rows m c.requires c.args.row (omega arith) (sym c.if-not-is_valid.ensures);
     }
 
-pub from-utf8-unchecked-requires : goal.from-utf8-unchecked-requires
-from-utf8-unchecked-requires c =
+pub from_utf8_unchecked-requires : goal.from_utf8_unchecked-requires
+from_utf8_unchecked-requires c =
     let m = lists c.args.self.now in
     let t = c.text-bytes.ensures ∙ ap (text m.buffers) c.view.ensures.value in
-    utf8_from_formed _ (ap formed t ∙ row_formed c.args.rows m c.requires c.args.row (omega arith) (sym c.if-not-is-valid.ensures))
+    utf8_from_formed _ (ap formed t ∙ row_formed c.args.rows m c.requires c.args.row (omega arith) (sym c.if-not-is_valid.ensures))
 
 pub returns : goal.returns
 returns c =
     let m = lists c.args.self.now in
-    ap Some (c.from-utf8-unchecked.ensures ∙ (c.text-bytes.ensures ∙ ap (text m.buffers) c.view.ensures.value))
-    ∙ (ap (λ b. cond b (Some (text m.buffers (view m c.args.row))) None) c.if-not-is-valid.ensures ∙ sym (at_rows_by (row_at m) c.args.rows c.args.row None (omega arith)))
+    ap Some (c.from_utf8_unchecked.ensures ∙ (c.text-bytes.ensures ∙ ap (text m.buffers) c.view.ensures.value))
+    ∙ (ap (λ b. cond b (Some (text m.buffers (view m c.args.row))) None) c.if-not-is_valid.ensures ∙ sym (at_rows_by (row_at m) c.args.rows c.args.row None (omega arith)))

@@ -3,9 +3,9 @@ use Rattle.source.specs.Rows.{rows_by}
 use Rattle.views.specs.Verdict.{enough}
 use Rattle.views.proofs.view_column.ViewColumn.empty.Goals as goal
 
-pub invariant-of-result : goal.invariant-of-result
+pub invariant_of-result : goal.invariant_of-result
 unfolding enough
-invariant-of-result c = (refl, tt)
+invariant_of-result c = (refl, tt)
 
 pub returns : goal.returns
 unfolding rows_by
