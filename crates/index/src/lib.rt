@@ -18,7 +18,7 @@ pub fn substr_index_slice_finder<'a, F: Searcher>(
     finder: &F,
     n: u64,
 ) -> (&'a str, u64)
-    ensures { part result ≡ before_place string.now (slice_get (occurrences (delimiter finder.now) string.now) n) }
+    ensures { part result ≡ before_place string.now (slice_get (occurrences (F.delimiter finder.now) string.now) n) }
 {
     finder.is_text();
     match occurrence_left(string.as_bytes(), finder, n) {
@@ -33,7 +33,7 @@ pub fn substr_index_rslice_finder<'a, F: Searcher>(
     finder: &F,
     n: u64,
 ) -> (&'a str, u64)
-    ensures { part result ≡ after_place (delimiter finder.now) string.now (slice_get (occurrences_back (delimiter finder.now) string.now) n) }
+    ensures { part result ≡ after_place (F.delimiter finder.now) string.now (slice_get (occurrences_back (F.delimiter finder.now) string.now) n) }
 {
     finder.is_text();
     match occurrence_right(string.as_bytes(), finder, n) {
@@ -48,7 +48,7 @@ pub fn substr_index_rslice_finder<'a, F: Searcher>(
 /// What precedes occurrence `count` from the left, or follows occurrence `-count` from the right,
 /// with its place; empty at place 0 for a count of 0 or an empty delimiter.
 pub fn substr_index<'a, F: Searcher>(string: &'a str, finder: &F, count: i64) -> (&'a str, u64)
-    ensures answer { part result ≡ index_at (delimiter finder.now) string.now count }
+    ensures answer { part result ≡ index_at (F.delimiter finder.now) string.now count }
     ensures fields { IndexJoinsFields }
 {
     if count == 0 || finder.len() == 0 {

@@ -9,8 +9,8 @@ use split::walk::{before_occurrences, past_occurrences};
 
 /// Where occurrence `n` (0-based) from the left stands.
 pub fn occurrence_left<F: Searcher>(row: &[u8], finder: &F, n: u64) -> Option<usize>
-    ensures place { result ≡ slice_get (occurrences (delimiter finder.now) row.now) n }
-    ensures here { IfSome result (λ p. Stands (delimiter finder.now) row.now p) }
+    ensures place { result ≡ slice_get (occurrences (F.delimiter finder.now) row.now) n }
+    ensures here { IfSome result (λ p. Stands (F.delimiter finder.now) row.now p) }
 {
     let start = past_occurrences(row, finder, n)?;
     Some(start + finder.find(&row[start..])?)
@@ -18,8 +18,8 @@ pub fn occurrence_left<F: Searcher>(row: &[u8], finder: &F, n: u64) -> Option<us
 
 /// Where occurrence `n` (0-based) from the right stands.
 pub fn occurrence_right<F: Searcher>(row: &[u8], finder: &F, n: u64) -> Option<usize>
-    ensures place { result ≡ slice_get (occurrences_back (delimiter finder.now) row.now) n }
-    ensures here { IfSome result (λ p. Stands (delimiter finder.now) row.now p) }
+    ensures place { result ≡ slice_get (occurrences_back (F.delimiter finder.now) row.now) n }
+    ensures here { IfSome result (λ p. Stands (F.delimiter finder.now) row.now p) }
 {
     let end = before_occurrences(row, finder, n)?;
     Some(finder.rfind(&row[0..end])?)

@@ -19,7 +19,7 @@ pub fn split_nth_finder<'a, F: Searcher>(
     finder: &F,
     n: u64,
 ) -> Option<(&'a str, u64)>
-    ensures { option_map part result ≡ slice_get (left_fields (delimiter finder.now) string.now) n }
+    ensures { option_map part result ≡ slice_get (left_fields (F.delimiter finder.now) string.now) n }
 {
     finder.is_text();
     let bytes = string.as_bytes();
@@ -36,7 +36,7 @@ pub fn rsplit_nth_finder<'a, F: Searcher>(
     finder: &F,
     n: u64,
 ) -> Option<(&'a str, u64)>
-    ensures { option_map part result ≡ slice_get (right_fields (delimiter finder.now) string.now) n }
+    ensures { option_map part result ≡ slice_get (right_fields (F.delimiter finder.now) string.now) n }
 {
     finder.is_text();
     let bytes = string.as_bytes();
@@ -64,7 +64,7 @@ pub fn split_part<'a, F: Searcher>(
     finder: &F,
     position: i64,
 ) -> Result<(&'a str, u64), Fault>
-    ensures answer { answered result ≡ field_at (delimiter finder.now) string.now position }
+    ensures answer { answered result ≡ field_at (F.delimiter finder.now) string.now position }
     ensures lowest_first { LowestFirst }
     ensures highest_first { HighestFirst }
     ensures rejoined { Rejoined }

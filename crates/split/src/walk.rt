@@ -7,7 +7,7 @@ use search::Searcher;
 
 /// Where the first `n` occurrences from the left end; nothing where there are fewer.
 pub fn past_occurrences<F: Searcher>(row: &[u8], finder: &F, n: u64) -> Option<usize>
-    ensures place { result ≡ end_after (delimiter finder.now) 0 (occurrences (delimiter finder.now) row.now) n }
+    ensures place { result ≡ end_after (F.delimiter finder.now) 0 (occurrences (F.delimiter finder.now) row.now) n }
     ensures within { IfSome result (λ p. p ≤ length row.now) }
 {
     let mut start = 0;
@@ -19,7 +19,7 @@ pub fn past_occurrences<F: Searcher>(row: &[u8], finder: &F, n: u64) -> Option<u
 
 /// Where the first `n` occurrences from the right begin; nothing where there are fewer.
 pub fn before_occurrences<F: Searcher>(row: &[u8], finder: &F, n: u64) -> Option<usize>
-    ensures place { result ≡ start_before (length row.now) (occurrences_back (delimiter finder.now) row.now) n }
+    ensures place { result ≡ start_before (length row.now) (occurrences_back (F.delimiter finder.now) row.now) n }
     ensures within { IfSome result (λ p. p ≤ length row.now) }
 {
     let mut end = row.len();

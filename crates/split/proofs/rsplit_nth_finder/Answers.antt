@@ -10,56 +10,56 @@ use Rattle.split.proofs.Reaching.{right_field, right_last, right_gone}
 use Rattle.split.proofs.Rows.{start_row, prior_row, none_before_row}
 use Rattle.split.proofs.rsplit_nth_finder.Goals as goal
 
-pub returns-in-err-end : goal.returns-in-err-end
-returns-in-err-end g c =
-    let d = g.row.F-Searcher.delimiter c.args.finder.now in
-    ap (option_map part) c.from-residual.ensures ∙ sym (right_gone d _ _ (start_row d _ _ c.as-bytes-bytes.ensures.value _ _ c.in-err-end.ensures.place))
+pub returns-in_err-end : goal.returns-in_err-end
+returns-in_err-end g c =
+    let d = g.F.Searcher.delimiter c.args.finder.now in
+    ap (option_map part) c.from_residual.ensures ∙ sym (right_gone d _ _ (start_row d _ _ c.as_bytes-bytes.ensures.value _ _ c.in_err-end.ensures.place))
 
 pub range-requires : goal.range-requires
 range-requires g c =
-    let d = g.row.F-Searcher.delimiter c.args.finder.now in
+    let d = g.F.Searcher.delimiter c.args.finder.now in
     let t = c.args.string.now in
-    let e = c.as-bytes-bytes.ensures.value in
-    let u = subst IsUtf8 e c.as-bytes-bytes.ensures.utf8 in
-    let w = c.is-text.ensures in
+    let e = c.as_bytes-bytes.ensures.value in
+    let u = subst IsUtf8 e c.as_bytes-bytes.ensures.utf8 in
+    let w = c.is_text.ensures in
     let n = prior_row d _ t e _ c.in-Some.pos c.in-Some.ensures.meaning in
     let size : c.in-Some.pos + length d ≡ c.in-Some.pos + c.len.result = ap (λ k. c.in-Some.pos + k) (sym c.len.ensures) in
     record {
-      start-le-end = omega (arith, n.before, c.len.ensures);
-      start-boundary = λ _. subst (IsCharBoundary t) size (sides d t u w c.in-Some.pos n.here).1;
-      end-boundary = walked_back_seam d t u w _ _ (start_row d _ t e _ _ c.in-ok-end.ensures.place);
+      start_le_end = omega (arith, n.before, c.len.ensures);
+      start_boundary = λ _. subst (IsCharBoundary t) size (sides d t u w c.in-Some.pos n.here).1;
+      end_boundary = walked_back_seam d t u w _ _ (start_row d _ t e _ _ c.in_ok-end.ensures.place);
     }
 
 pub range-requires-in-None : goal.range-requires-in-None
 range-requires-in-None g c =
-    let d = g.row.F-Searcher.delimiter c.args.finder.now in
+    let d = g.F.Searcher.delimiter c.args.finder.now in
     let t = c.args.string.now in
-    let e = c.as-bytes-bytes.ensures.value in
-    let u = subst IsUtf8 e c.as-bytes-bytes.ensures.utf8 in
+    let e = c.as_bytes-bytes.ensures.value in
+    let u = subst IsUtf8 e c.as_bytes-bytes.ensures.utf8 in
     record {
-      start-le-end = omega arith;
-      start-boundary = λ _. IsCharBoundary-start t u;
-      end-boundary = walked_back_seam d t u c.is-text.ensures _ _ (start_row d _ t e _ _ c.in-ok-end.ensures.place);
+      start_le_end = omega arith;
+      start_boundary = λ _. IsCharBoundary-start t u;
+      end_boundary = walked_back_seam d t u c.is_text.ensures _ _ (start_row d _ t e _ _ c.in_ok-end.ensures.place);
     }
 
 pub returns-in-Some : goal.returns-in-Some
 returns-in-Some g c =
-    let d = g.row.F-Searcher.delimiter c.args.finder.now in
+    let d = g.F.Searcher.delimiter c.args.finder.now in
     let t = c.args.string.now in
-    let e = c.as-bytes-bytes.ensures.value in
-    let to = c.in-ok-end.end in
+    let e = c.as_bytes-bytes.ensures.value in
+    let to = c.in_ok-end.end in
     let n = prior_row d _ t e _ c.in-Some.pos c.in-Some.ensures.meaning in
     let size : c.in-Some.pos + c.len.result ≡ c.in-Some.pos + length d = ap (λ k. c.in-Some.pos + k) c.len.ensures in
     ap (λ x. Some (x, c.in-Some.pos + c.len.result)) c.range.ensures.value
     ∙ ap (λ s. Some (between s to t, s)) size
-    ∙ sym (right_field d t _ to c.in-Some.pos (start_row d _ t e _ _ c.in-ok-end.ensures.place) n)
+    ∙ sym (right_field d t _ to c.in-Some.pos (start_row d _ t e _ _ c.in_ok-end.ensures.place) n)
 
 pub returns-in-None : goal.returns-in-None
 returns-in-None g c =
-    let d = g.row.F-Searcher.delimiter c.args.finder.now in
+    let d = g.F.Searcher.delimiter c.args.finder.now in
     let t = c.args.string.now in
-    let e = c.as-bytes-bytes.ensures.value in
-    let to = c.in-ok-end.end in
+    let e = c.as_bytes-bytes.ensures.value in
+    let to = c.in_ok-end.end in
     ap (λ x. Some (x, 0)) c.range-in-None.ensures.value
     ∙ ap (λ n. Some (take n t, 0)) (sub-zero to)
-    ∙ sym (right_last d t _ to (start_row d _ t e _ _ c.in-ok-end.ensures.place) (none_before_row d _ t e to c.in-None.ensures.meaning))
+    ∙ sym (right_last d t _ to (start_row d _ t e _ _ c.in_ok-end.ensures.place) (none_before_row d _ t e to c.in-None.ensures.meaning))

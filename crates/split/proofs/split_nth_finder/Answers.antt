@@ -7,42 +7,42 @@ use Rattle.split.proofs.Reaching.{left_field, left_last, left_gone}
 use Rattle.split.proofs.Rows.{end_row, next_row, none_row}
 use Rattle.split.proofs.split_nth_finder.Goals as goal
 
-pub returns-in-err-start : goal.returns-in-err-start
-returns-in-err-start g c =
-    let d = g.row.F-Searcher.delimiter c.args.finder.now in
-    ap (option_map part) c.from-residual.ensures ∙ sym (left_gone d _ _ (end_row d _ _ c.as-bytes-bytes.ensures.value _ _ c.in-err-start.ensures.place))
+pub returns-in_err-start : goal.returns-in_err-start
+returns-in_err-start g c =
+    let d = g.F.Searcher.delimiter c.args.finder.now in
+    ap (option_map part) c.from_residual.ensures ∙ sym (left_gone d _ _ (end_row d _ _ c.as_bytes-bytes.ensures.value _ _ c.in_err-start.ensures.place))
 
 pub range-requires : goal.range-requires
 range-requires g c =
-    let d = g.row.F-Searcher.delimiter c.args.finder.now in
-    let e = c.as-bytes-bytes.ensures.value in
-    let u = subst IsUtf8 e c.as-bytes-bytes.ensures.utf8 in
-    let w = c.is-text.ensures in
+    let d = g.F.Searcher.delimiter c.args.finder.now in
+    let e = c.as_bytes-bytes.ensures.value in
+    let u = subst IsUtf8 e c.as_bytes-bytes.ensures.utf8 in
+    let w = c.is_text.ensures in
     record {
-      start-le-end = omega arith;
-      start-boundary = λ _. walked_seam d _ u w _ _ (end_row d _ _ e _ _ c.in-ok-start.ensures.place);
-      end-boundary = (sides d _ u w _ (next_row d _ _ e _ _ c.in-Some.ensures.meaning).here).0;
+      start_le_end = omega arith;
+      start_boundary = λ _. walked_seam d _ u w _ _ (end_row d _ _ e _ _ c.in_ok-start.ensures.place);
+      end_boundary = (sides d _ u w _ (next_row d _ _ e _ _ c.in-Some.ensures.meaning).here).0;
     }
 
-pub range-from-requires : goal.range-from-requires
-range-from-requires g c =
-    let d = g.row.F-Searcher.delimiter c.args.finder.now in
-    let e = c.as-bytes-bytes.ensures.value in
-    let u = subst IsUtf8 e c.as-bytes-bytes.ensures.utf8 in
-    λ _. walked_seam d _ u c.is-text.ensures _ _ (end_row d _ _ e _ _ c.in-ok-start.ensures.place)
+pub range_from-requires : goal.range_from-requires
+range_from-requires g c =
+    let d = g.F.Searcher.delimiter c.args.finder.now in
+    let e = c.as_bytes-bytes.ensures.value in
+    let u = subst IsUtf8 e c.as_bytes-bytes.ensures.utf8 in
+    λ _. walked_seam d _ u c.is_text.ensures _ _ (end_row d _ _ e _ _ c.in_ok-start.ensures.place)
 
 pub returns-in-Some : goal.returns-in-Some
 returns-in-Some g c =
-    let d = g.row.F-Searcher.delimiter c.args.finder.now in
-    let e = c.as-bytes-bytes.ensures.value in
-    let s = c.in-ok-start.start in
+    let d = g.F.Searcher.delimiter c.args.finder.now in
+    let e = c.as_bytes-bytes.ensures.value in
+    let s = c.in_ok-start.start in
     ap (λ x. Some (x, s)) c.range.ensures.value
-    ∙ sym (left_field d _ _ s _ (end_row d _ _ e _ _ c.in-ok-start.ensures.place) (next_row d _ _ e s _ c.in-Some.ensures.meaning))
+    ∙ sym (left_field d _ _ s _ (end_row d _ _ e _ _ c.in_ok-start.ensures.place) (next_row d _ _ e s _ c.in-Some.ensures.meaning))
 
 pub returns-in-None : goal.returns-in-None
 returns-in-None g c =
-    let d = g.row.F-Searcher.delimiter c.args.finder.now in
-    let e = c.as-bytes-bytes.ensures.value in
-    let s = c.in-ok-start.start in
-    ap (λ x. Some (x, s)) c.range-from.ensures.value
-    ∙ sym (left_last d _ _ s (end_row d _ _ e _ _ c.in-ok-start.ensures.place) (none_row d _ _ e s c.in-None.ensures.meaning))
+    let d = g.F.Searcher.delimiter c.args.finder.now in
+    let e = c.as_bytes-bytes.ensures.value in
+    let s = c.in_ok-start.start in
+    ap (λ x. Some (x, s)) c.range_from.ensures.value
+    ∙ sym (left_last d _ _ s (end_row d _ _ e _ _ c.in_ok-start.ensures.place) (none_row d _ _ e s c.in-None.ensures.meaning))

@@ -11,7 +11,7 @@ use Rattle.calls.proofs.making.fill.Goals as goal
 
 pub returns-in_err-piece : goal.returns-in_err-piece
 returns-in_err-piece g c =
-    let O = g.row.O-Output in
+    let O = g.O.Output in
     let o = c.args.out.now in
     let q = g.C.Call.request c.args.call.now in
     let i = c.loop-row.invariant in
@@ -34,7 +34,7 @@ returns-in_err-piece g c =
 
 pub returns-in_err-add : goal.returns-in_err-add
 returns-in_err-add g c =
-    let O = g.row.O-Output in
+    let O = g.O.Output in
     let o = c.args.out.now in
     let q = g.C.Call.request c.args.call.now in
     let i = c.loop-row.invariant in
@@ -63,7 +63,7 @@ returns-in_err-add g c =
 
 pub loop-row-preserved : goal.loop-row-preserved
 loop-row-preserved g c =
-    let O = g.row.O-Output in
+    let O = g.O.Output in
     let o = c.args.out.now in
     let q = g.C.Call.request c.args.call.now in
     let i = c.loop-row.invariant in
@@ -87,7 +87,7 @@ loop-row-preserved g c =
 
 pub returns : goal.returns
 returns g c =
-    let O = g.row.O-Output in
+    let O = g.O.Output in
     let o = c.args.out.now in
     let q = g.C.Call.request c.args.call.now in
     let i = c.loop-row.invariant in

@@ -10,7 +10,7 @@ apart e = let z : ◌≡◌ {A = ℕ} 0 1 = cc in omega arith
 
 pub returns-in-Some : goal.returns-in-Some
 returns-in-Some g c =
-    let O = g.row.O-Output in
+    let O = g.O.Output in
     let o = c.args.out.now in
     let q = g.C.Call.request c.args.call.now in
     let fault = c.in-Some.fault in
@@ -33,7 +33,7 @@ returns-in-Some g c =
 
 pub returns-in-Err : goal.returns-in-Err
 returns-in-Err g c =
-    let O = g.row.O-Output in
+    let O = g.O.Output in
     let o = c.args.out.now in
     let p = c.open-slip-2.new.self in
     let q = g.C.Call.request c.args.call.now in
@@ -69,7 +69,7 @@ returns-in-Err g c =
 
 pub returns-in-Ok : goal.returns-in-Ok
 returns-in-Ok g c =
-    let O = g.row.O-Output in
+    let O = g.O.Output in
     let o = c.args.out.now in
     let p = c.open-slip-2.new.self in
     let q = g.C.Call.request c.args.call.now in

@@ -11,7 +11,7 @@ unreachable-requires g c = call_there (g.L.CallList.requests c.args.calls.now) c
 
 pub returns : goal.returns
 returns g c =
-    let O = g.row.O-Output in
+    let O = g.O.Output in
     let o = c.args.out.now in
     let m = c.make.ensures in
     let is = call_is (g.L.CallList.requests c.args.calls.now) c.args.number c.requires (g.L.Item.Call.request c.in-Some.call) c.in-Some.ensures in

@@ -9,7 +9,7 @@ use Rattle.runs.proofs.running.run.Goals as goal
 
 pub loop-number-preserved : goal.loop-number-preserved
 loop-number-preserved g c =
-    let O = g.row.O-Output in
+    let O = g.O.Output in
     let o = c.discard.new.self in
     let out = c.loop-number.out in
     let qs = g.L.CallList.requests c.args.calls.now in
@@ -53,7 +53,7 @@ loop-number-preserved g c =
 
 pub returns : goal.returns
 returns g c =
-    let O = g.row.O-Output in
+    let O = g.O.Output in
     let a = c.args.out.now in
     let o = c.discard.new.self in
     let out = c.loop-number.out in

@@ -18,7 +18,7 @@ as_found (Err y) P out last f rows c e = e ∙ ap f c
 
 pub returns : goal.returns
 returns g c =
-    let O = g.row.O-Output in
+    let O = g.O.Output in
     let o = c.args.out in
     let last = c.run-told.new.out in
     let qs = g.L.CallList.requests c.args.calls.now in

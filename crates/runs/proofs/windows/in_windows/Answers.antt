@@ -24,7 +24,7 @@ sum_is g c = eqb-true (total c.args.windows.now) c.rows.result (sym c.total-is.e
 
 pub returns : goal.returns
 returns g c =
-    let O = g.row.O-Output in
+    let O = g.O.Output in
     let o = c.args.out.now in
     let last = c.make-windows-told.new.out in
     let req = g.C.Call.request in

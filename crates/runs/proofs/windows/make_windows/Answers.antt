@@ -13,7 +13,7 @@ use Rattle.runs.proofs.windows.make_windows.Given as given
 -- what a window told is at most its rows
 most : (g : given.Over) (c : goal.After-unwrap-or-rows g) → c.unwrap-or-rows.result ≤ get_or c.args.windows.now c.loop-window.window-index 0
 most g c =
-    let O = g.row.O-Output in
+    let O = g.O.Output in
     let out = c.loop-window.out in
     let n = get_or c.args.windows.now c.loop-window.window-index 0 in
     let law = c.divides.ensures c.requires.cuttable in
@@ -34,7 +34,7 @@ overflow-add-at g c = let l = left g c in let i = c.loop-window.invariant.0 in l
 
 pub loop-window-preserved : goal.loop-window-preserved
 loop-window-preserved g c =
-    let O = g.row.O-Output in
+    let O = g.O.Output in
     let o = c.args.out.now in
     let out = c.loop-window.out in
     let last = c.make-told.new.out in
@@ -95,7 +95,7 @@ both false = refl
 
 pub returns : goal.returns
 returns g c =
-    let O = g.row.O-Output in
+    let O = g.O.Output in
     let o = c.args.out.now in
     let out = c.loop-window.out in
     let req = g.C.Call.request in

@@ -10,21 +10,21 @@ abbrev pub invariant-loop-window : goal.invariant-loop-window
 invariant-loop-window g l =
     (l.at + total (drop l.window-index l.windows) ≡ total l.windows)
     × (l.rows ≤ l.at)
-    × (g.row.O-Output.rule l.out ≡ g.row.O-Output.rule l.initial.out)
-    × (g.row.O-Output.base l.out ≡ g.row.O-Output.base l.initial.out)
-    × (g.row.O-Output.taken l.out ≡ g.row.O-Output.taken l.initial.out)
-    × (g.row.O-Output.sizes l.out ≡ g.row.O-Output.sizes l.initial.out)
-    × (0 < l.window-index → g.row.O-Output.pending l.out ≡ [])
-    × (after_all (on_rows (g.row.O-Output.rule l.initial.out)) (g.row.O-Output.kept l.out) (map (λ c. asked_by (g.row.O-Output.taken l.initial.out) (g.C.Call.request c)) (parts g.C.Divisible.part l.call l.at (drop l.window-index l.windows)))
-    ≡ after_all (on_rows (g.row.O-Output.rule l.initial.out)) (g.row.O-Output.kept l.initial.out) (map (λ c. asked_by (g.row.O-Output.taken l.initial.out) (g.C.Call.request c)) (parts g.C.Divisible.part l.call 0 l.windows)))
-    × (cond l.all (all_taken (answers (on_rows (g.row.O-Output.rule l.initial.out)) (g.row.O-Output.kept l.out) (map (λ c. asked_by (g.row.O-Output.taken l.initial.out) (g.C.Call.request c)) (parts g.C.Divisible.part l.call l.at (drop l.window-index l.windows))))) false
-    ≡ all_taken (answers (on_rows (g.row.O-Output.rule l.initial.out)) (g.row.O-Output.kept l.initial.out) (map (λ c. asked_by (g.row.O-Output.taken l.initial.out) (g.C.Call.request c)) (parts g.C.Divisible.part l.call 0 l.windows))))
-    × (l.rows + sum_told (answers (on_rows (g.row.O-Output.rule l.initial.out)) (g.row.O-Output.kept l.out) (map (λ c. asked_by (g.row.O-Output.taken l.initial.out) (g.C.Call.request c)) (parts g.C.Divisible.part l.call l.at (drop l.window-index l.windows))))
-    ≡ sum_told (answers (on_rows (g.row.O-Output.rule l.initial.out)) (g.row.O-Output.kept l.initial.out) (map (λ c. asked_by (g.row.O-Output.taken l.initial.out) (g.C.Call.request c)) (parts g.C.Divisible.part l.call 0 l.windows))))
-    × (Over (g.row.O-Output.base l.initial.out) (g.C.Call.request l.call).drawn
-    → (after_all (g.row.O-Output.rule l.initial.out) (map row_of (g.row.O-Output.kept l.out)) (map (λ c. asked_rows (g.C.Call.request c)) (parts g.C.Divisible.part l.call l.at (drop l.window-index l.windows)))
-    ≡ after_all (g.row.O-Output.rule l.initial.out) (map row_of (g.row.O-Output.kept l.initial.out)) (map (λ c. asked_rows (g.C.Call.request c)) (parts g.C.Divisible.part l.call 0 l.windows)))
-    × (cond l.all (all_taken (answers (g.row.O-Output.rule l.initial.out) (map row_of (g.row.O-Output.kept l.out)) (map (λ c. asked_rows (g.C.Call.request c)) (parts g.C.Divisible.part l.call l.at (drop l.window-index l.windows))))) false
-    ≡ all_taken (answers (g.row.O-Output.rule l.initial.out) (map row_of (g.row.O-Output.kept l.initial.out)) (map (λ c. asked_rows (g.C.Call.request c)) (parts g.C.Divisible.part l.call 0 l.windows))))
-    × (l.rows + sum_told (answers (g.row.O-Output.rule l.initial.out) (map row_of (g.row.O-Output.kept l.out)) (map (λ c. asked_rows (g.C.Call.request c)) (parts g.C.Divisible.part l.call l.at (drop l.window-index l.windows))))
-    ≡ sum_told (answers (g.row.O-Output.rule l.initial.out) (map row_of (g.row.O-Output.kept l.initial.out)) (map (λ c. asked_rows (g.C.Call.request c)) (parts g.C.Divisible.part l.call 0 l.windows)))))
+    × (g.O.Output.rule l.out ≡ g.O.Output.rule l.initial.out)
+    × (g.O.Output.base l.out ≡ g.O.Output.base l.initial.out)
+    × (g.O.Output.taken l.out ≡ g.O.Output.taken l.initial.out)
+    × (g.O.Output.sizes l.out ≡ g.O.Output.sizes l.initial.out)
+    × (0 < l.window-index → g.O.Output.pending l.out ≡ [])
+    × (after_all (on_rows (g.O.Output.rule l.initial.out)) (g.O.Output.kept l.out) (map (λ c. asked_by (g.O.Output.taken l.initial.out) (g.C.Call.request c)) (parts g.C.Divisible.part l.call l.at (drop l.window-index l.windows)))
+    ≡ after_all (on_rows (g.O.Output.rule l.initial.out)) (g.O.Output.kept l.initial.out) (map (λ c. asked_by (g.O.Output.taken l.initial.out) (g.C.Call.request c)) (parts g.C.Divisible.part l.call 0 l.windows)))
+    × (cond l.all (all_taken (answers (on_rows (g.O.Output.rule l.initial.out)) (g.O.Output.kept l.out) (map (λ c. asked_by (g.O.Output.taken l.initial.out) (g.C.Call.request c)) (parts g.C.Divisible.part l.call l.at (drop l.window-index l.windows))))) false
+    ≡ all_taken (answers (on_rows (g.O.Output.rule l.initial.out)) (g.O.Output.kept l.initial.out) (map (λ c. asked_by (g.O.Output.taken l.initial.out) (g.C.Call.request c)) (parts g.C.Divisible.part l.call 0 l.windows))))
+    × (l.rows + sum_told (answers (on_rows (g.O.Output.rule l.initial.out)) (g.O.Output.kept l.out) (map (λ c. asked_by (g.O.Output.taken l.initial.out) (g.C.Call.request c)) (parts g.C.Divisible.part l.call l.at (drop l.window-index l.windows))))
+    ≡ sum_told (answers (on_rows (g.O.Output.rule l.initial.out)) (g.O.Output.kept l.initial.out) (map (λ c. asked_by (g.O.Output.taken l.initial.out) (g.C.Call.request c)) (parts g.C.Divisible.part l.call 0 l.windows))))
+    × (Over (g.O.Output.base l.initial.out) (g.C.Call.request l.call).drawn
+    → (after_all (g.O.Output.rule l.initial.out) (map row_of (g.O.Output.kept l.out)) (map (λ c. asked_rows (g.C.Call.request c)) (parts g.C.Divisible.part l.call l.at (drop l.window-index l.windows)))
+    ≡ after_all (g.O.Output.rule l.initial.out) (map row_of (g.O.Output.kept l.initial.out)) (map (λ c. asked_rows (g.C.Call.request c)) (parts g.C.Divisible.part l.call 0 l.windows)))
+    × (cond l.all (all_taken (answers (g.O.Output.rule l.initial.out) (map row_of (g.O.Output.kept l.out)) (map (λ c. asked_rows (g.C.Call.request c)) (parts g.C.Divisible.part l.call l.at (drop l.window-index l.windows))))) false
+    ≡ all_taken (answers (g.O.Output.rule l.initial.out) (map row_of (g.O.Output.kept l.initial.out)) (map (λ c. asked_rows (g.C.Call.request c)) (parts g.C.Divisible.part l.call 0 l.windows))))
+    × (l.rows + sum_told (answers (g.O.Output.rule l.initial.out) (map row_of (g.O.Output.kept l.out)) (map (λ c. asked_rows (g.C.Call.request c)) (parts g.C.Divisible.part l.call l.at (drop l.window-index l.windows))))
+    ≡ sum_told (answers (g.O.Output.rule l.initial.out) (map row_of (g.O.Output.kept l.initial.out)) (map (λ c. asked_rows (g.C.Call.request c)) (parts g.C.Divisible.part l.call 0 l.windows)))))

@@ -4,7 +4,7 @@ use Rattle.search.proofs.Single.{one_is_ascii, only}
 use Rattle.search.proofs.one_byte.OneByte.new.Goals as goal
 
 pub invariant_of-result : goal.invariant_of-result
-invariant_of-result c = (one_is_ascii _ c.if-bytes-ne1.false c.as_bytes-bytes.ensures.utf8, tt)
+invariant_of-result c = record { ascii = one_is_ascii _ c.if-bytes-ne1.false c.as_bytes-bytes.ensures.utf8 }
 
 one : (xs d : List ℕ) → xs ≡ d → length xs ≡ 1 → Some (get_or xs 0 0 ∷ []) ≡ if_one_byte d
 one xs d e l =
