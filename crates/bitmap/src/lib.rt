@@ -1,5 +1,7 @@
 //! Validity bitmaps, as in Arrow's columnar format: the lowest bit of the first byte is row 0's, and 1 means valid.
 //! Without a bitmap all rows are valid.
+#![tactic(auto)]
+
 ghost use Rattle.std.specs.Prelude.{◌≡◌};
 ghost use Rattle.bitmap.specs.Validity.{bit, covers, valid};
 ghost use Rattle.std.specs.Option.{option_map};

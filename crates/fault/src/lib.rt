@@ -1,5 +1,7 @@
 //! The faults: why a column, a text, a window, a call or an output refused.
 //! One plain enum, carried by `Result` and `?` through every layer.
+#![tactic(auto)]
+
 ghost use Rattle.std.specs.Prelude.{◌≡◌, Some};
 ghost use Rattle.fault.specs.Faults.{number_of, layer_of, row_of, placed_at};
 ghost use Rattle.fault.specs.Reports.{layer_name, reason_of, report};

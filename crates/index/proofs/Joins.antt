@@ -1,15 +1,15 @@
 -- Index is split's fields joined.
-use Rattle.std.proofs.Common.{◌≡◌, ℕ, zero, suc, ◌+◌, ◌-◌, ◌<◌, ◌≤◌, Bool, true, false, cond, eqb, List, [], ◌∷◌, ◌++◌, map, reverse, length, get_or, take, drop, pos, negsuc, Some, None, Option, unwrap_or, sym, refl, ap, ◌∙◌, subst, arith, ne_eqb}
+use Rattle.std.proofs.Common.{◌≡◌, ℕ, zero, suc, ◌+◌, ◌-◌, ◌<◌, ◌≤◌, Bool, false, cond, eqb, List, [], ◌∷◌, ◌++◌, reverse, length, get_or, take, pos, negsuc, Some, None, Option, unwrap_or, sym, refl, ap, ◌∙◌, arith, ne_eqb}
 use native.Mathlib.Nat.{sub-zero}
 use Rattle.std.specs.List.{between, slice_get}
-use Rattle.std.proofs.lemmas.List.{take_all, take_rest, append-nil, reverse-append}
+use Rattle.std.proofs.lemmas.List.{take_all, take_rest, reverse-append}
 use Rattle.std.proofs.lemmas.Option.{slice_get_past}
 use Rattle.split.specs.Occurrences.{occurrences, occurrences_back}
-use Rattle.split.specs.Fields.{Part, missing, cut_up, cut_down, left_fields, right_fields, field_at, join, texts}
+use Rattle.split.specs.Fields.{Part, missing, cut_up, cut_down, left_fields, right_fields, join, texts}
 use Rattle.split.proofs.Scans.{past_greedy, before_greedy}
 use Rattle.split.proofs.Joining.{fields_join, last_join, start_of}
 use Rattle.index.specs.Index.{before_place, after_place, beside, index_at}
-use Rattle.index.specs.Joining.{text, fields_to, fields_from, FieldsJoined, FieldsJoinedBack, IndexJoinsFields}
+use Rattle.index.specs.Joining.{fields_to, fields_from, FieldsJoined, FieldsJoinedBack, IndexJoinsFields}
 
 -- ---- the fields at the positions 1 to n are the first n fields, and those at -n to -1 the last n
 

@@ -1,5 +1,5 @@
 -- The occurrence that a walk over n of them comes to.
-use Rattle.std.proofs.Common.{◌≡◌, ℕ, zero, suc, ◌+◌, ◌≤◌, List, [], ◌∷◌, length, drop, Some, None, Option, sym, refl, ap, ◌∙◌}
+use Rattle.std.proofs.Common.{◌≡◌, ℕ, zero, suc, ◌+◌, ◌≤◌, List, [], ◌∷◌, length, drop, Some, None, sym, refl, ap, ◌∙◌}
 use Rattle.std.specs.List.{slice_get}
 use Rattle.search.specs.Places.{Stands}
 use Rattle.split.specs.Occurrences.{occurrences, occurrences_back, end_after, start_before, Next, Prior}

@@ -1,5 +1,7 @@
 //! `substr_index` of one row: what precedes or follows an occurrence of the delimiter.
 //! Generic over the searcher, over the same occurrences that split uses.
+#![tactic(auto)]
+
 ghost use Rattle.std.specs.Prelude.{◌≡◌, length};
 ghost use Rattle.std.specs.List.{slice_get};
 ghost use Rattle.split.specs.Fields.{part};

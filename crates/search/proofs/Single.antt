@@ -1,11 +1,11 @@
 -- A text of one byte is an ASCII character.
-use Rattle.std.proofs.Common.{◌≡◌, ℕ, zero, suc, ◌+◌, ◌<◌, ◌≤◌, Bool, true, false, cond, eqb, List, [], ◌∷◌, ◌++◌, length, get_or, Some, None, IsUtf8, IsAscii, sym, refl, ap, ◌∙◌, subst, inl, inr, arith, lit<, length-append}
+use Rattle.std.proofs.Common.{◌≡◌, ℕ, zero, suc, ◌+◌, ◌<◌, ◌≤◌, Bool, true, false, cond, eqb, List, [], ◌∷◌, length, get_or, Some, None, IsUtf8, IsAscii, sym, refl, ap, ◌∙◌, inl, inr, arith, lit<, length-append}
 use Rattle.search.specs.Places.{if_one_byte}
 use lib.Utf8.{encode, encodes, scalars}
 use Rattle.std.specs.Char.{len_utf8}
 use Rattle.std.proofs.lemmas.Bool.{cases_lt}
 use Rattle.std.proofs.lemmas.Bool.Decides.{nat_tests}
-use Rattle.std.proofs.lemmas.Str.{length-encode, len_utf8_bounds, byte_from_char, IsUtf8-from_ascii, encodes-IsAscii}
+use Rattle.std.proofs.lemmas.Str.{length-encode, byte_from_char, encodes-IsAscii}
 use Rattle.text.specs.Table.{WellFormed}
 use Rattle.text.proofs.Std.{well_formed_from_utf8}
 

@@ -1,5 +1,7 @@
 //! Searchers: each finds one delimiter in any text, from the left and from the right.
 //! The trait says what a searcher means; code above is generic over it and proved once.
+#![tactic(auto)]
+
 ghost use Rattle.std.specs.Prelude.{◌≡◌, ℕ, List, length};
 ghost use Rattle.search.specs.Places.{lowest, highest, Lowest, Highest};
 ghost use Rattle.text.specs.Table.{WellFormed};

@@ -1,5 +1,7 @@
 //! Sources: what rows of text, and positions beside them, are read from. The traits say what these mean; code above is generic over them.
 //! Here are windows, and one row repeated; the columns are sources too.
+#![tactic(auto)]
+
 ghost use Rattle.std.specs.Prelude.{◌≡◌, List, length, ℤ, None, Option, slice_index_or};
 ghost use Rattle.source.specs.Rows.{Row};
 ghost use Rattle.std.specs.Option.{option_map};

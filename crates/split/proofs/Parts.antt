@@ -1,9 +1,9 @@
 -- What a search of a part of the row tells of the whole row.
-use Rattle.std.proofs.Common.{◌≡◌, ℕ, suc, ◌+◌, ◌-◌, ◌<◌, ◌≤◌, List, [], ◌∷◌, length, get_or, take, drop, sym, refl, ap, ◌∙◌, subst, add_assoc, arith}
+use Rattle.std.proofs.Common.{◌≡◌, ℕ, ◌+◌, ◌-◌, ◌<◌, ◌≤◌, List, length, take, drop, subst, add_assoc, arith}
 use native.Mathlib.Nat.{sub-zero}
 use Rattle.std.specs.List.{between}
 use Rattle.std.proofs.lemmas.List.{length-take, length-drop, get_or-drop, get_or-take, take_rest}
-use Rattle.search.specs.Places.{Stands, Lowest, Highest}
+use Rattle.search.specs.Places.{Stands}
 use Rattle.split.specs.Occurrences.{Next, Prior}
 
 module _ (d t : List ℕ) where

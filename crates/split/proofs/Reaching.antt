@@ -1,9 +1,9 @@
 -- The field that a walk over n occurrences leads to.
-use Rattle.std.proofs.Common.{◌≡◌, ℕ, zero, suc, ◌+◌, ◌≤◌, List, [], ◌∷◌, length, take, drop, Some, None, Option, sym, refl, ap, ◌∙◌, subst}
+use Rattle.std.proofs.Common.{◌≡◌, ℕ, zero, suc, ◌+◌, ◌≤◌, List, [], ◌∷◌, length, take, drop, Some, None, sym, refl, ap, ◌∙◌, subst}
 use Rattle.std.specs.List.{between, slice_get}
 use Rattle.search.specs.Places.{Stands}
 use Rattle.split.specs.Occurrences.{occurrences, occurrences_back, places_past, places_before, end_after, start_before, Next, Prior, FromLeft, FromRight}
-use Rattle.split.specs.Fields.{Part, cut_up, cut_down, left_fields, right_fields}
+use Rattle.split.specs.Fields.{cut_up, cut_down, left_fields, right_fields}
 use Rattle.split.proofs.Scans.{past_greedy, before_greedy, greedy_unique, right_unique, past_none, past_some, before_none, before_some}
 use Rattle.split.proofs.Seams.{some_is, none_some}
 

@@ -1,5 +1,5 @@
 -- The row's bytes b, which the searches read, are its text t, which is cut.
-use Rattle.std.proofs.Common.{◌≡◌, ℕ, ◌+◌, ◌-◌, ◌<◌, ◌≤◌, List, length, take, Some, None, Option, sym, subst}
+use Rattle.std.proofs.Common.{◌≡◌, ℕ, ◌+◌, ◌-◌, ◌≤◌, List, length, take, Some, None, Option, sym, subst}
 use Rattle.std.specs.List.{between}
 use Rattle.search.specs.Places.{Stands, Lowest, Highest}
 use Rattle.split.specs.Occurrences.{occurrences, occurrences_back, end_after, start_before, Next, Prior}

@@ -1,5 +1,5 @@
 -- One step of a walk over the occurrences.
-use Rattle.std.proofs.Common.{◌≡◌, ℕ, suc, ◌+◌, ◌≤◌, List, [], ◌∷◌, length, Some, None, ap, ◌∙◌}
+use Rattle.std.proofs.Common.{◌≡◌, ℕ, suc, ◌+◌, ◌≤◌, List, length, Some, None, ap, ◌∙◌}
 use Rattle.search.specs.Places.{Stands}
 use Rattle.split.specs.Occurrences.{places_past, places_before, end_after, start_before, Next, Prior}
 use Rattle.split.proofs.Scans.{past_none, past_some, before_none, before_some}

@@ -1,6 +1,6 @@
 -- The fields of a row: what lies between the occurrences of the delimiter.
 -- Positions above 0 are PostgreSQL's split_part; those below 0 count the fields that the occurrences from the right leave, as DataFusion's.
-use Rattle.std.specs.Prelude.{ℕ, zero, suc, ◌+◌, List, [], ◌∷◌, ◌++◌, map, length, take, drop, ℤ, pos, negsuc, Some, None, Ok, Err, Option, Result}
+use Rattle.std.specs.Prelude.{ℕ, zero, suc, ◌+◌, List, [], ◌∷◌, ◌++◌, map, length, take, drop, ℤ, pos, negsuc, Ok, Err, Result}
 use Rattle.std.specs.Borrow.{Bor}
 use Rattle.std.specs.Option.{unwrap_or}
 use Rattle.std.specs.List.{between, slice_get}

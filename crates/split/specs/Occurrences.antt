@@ -1,5 +1,5 @@
 -- The occurrences of a delimiter in a row, from the left and from the right, without overlap.
-use Rattle.std.specs.Prelude.{◌≡◌, ℕ, zero, suc, ◌+◌, ◌-◌, ◌<◌, ◌≤◌, Bool, cond, List, [], ◌∷◌, length, Some, None, Option}
+use Rattle.std.specs.Prelude.{ℕ, zero, suc, ◌+◌, ◌-◌, ◌<◌, ◌≤◌, cond, List, [], ◌∷◌, length, Some, None, Option}
 use Rattle.search.specs.Places.{Stands, stands}
 
 -- among the n places from p on, past the first `skip`: each where d stands, passing over those inside it

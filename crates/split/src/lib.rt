@@ -1,5 +1,7 @@
 //! `split_part` of one row: the field at a position, with its place in the row.
 //! Generic over the searcher, which means the delimiter.
+#![tactic(auto)]
+
 ghost use Rattle.std.specs.Prelude.{◌≡◌, ◌≤◌, length};
 ghost use Rattle.std.specs.Option.{option_map, unwrap_or};
 ghost use Rattle.std.specs.List.{slice_get};

@@ -18,6 +18,7 @@ fn one_byte(delimiter: &str) -> Result<OneByte, Fail> {
 }
 
 /// Checks the delimiter's length, and its lowest and highest place in `text`.
+#[cfg(test)]
 fn places<F: Searcher>(
     rt: &impl Abort,
     finder: &F,
@@ -33,6 +34,7 @@ fn places<F: Searcher>(
 }
 
 /// Checks that the field at `position` is `text`, at `place`.
+#[cfg(test)]
 fn field<F: Searcher>(
     rt: &impl Abort,
     row: &str,
@@ -48,6 +50,7 @@ fn field<F: Searcher>(
 }
 
 /// Checks that there is no field at `position`.
+#[cfg(test)]
 fn missing<F: Searcher>(rt: &impl Abort, row: &str, finder: &F, position: i64) -> Result<(), Fail> {
     field(rt, row, finder, position, "", 0)
 }

@@ -1,5 +1,5 @@
 -- A test over every class or every state is one computed test.
-use Rattle.std.proofs.Common.{◌≡◌, ℕ, ◌<◌, Bool, T, refl, subst, lit<}
+use Rattle.std.proofs.Common.{◌<◌, Bool, T, subst, lit<}
 use Rattle.text.proofs.Tables.{all_below, at}
 use Rattle.text.proofs.Names.{class_number, class_named, class_back, state_number, state_named, state_back}
 use Rattle.text.specs.declared.classes.Class.{Class}

@@ -1,7 +1,7 @@
 -- The test `formed`, the table's definition, and `std`'s `Utf8` agree; joinings are well-formed.
-use Rattle.std.proofs.Common.{◌≡◌, ℕ, Bool, true, false, List, [], ◌∷◌, ◌++◌, IsUtf8, Decides, sym, refl, ap, ◌∙◌, subst}
+use Rattle.std.proofs.Common.{◌≡◌, ℕ, true, List, [], ◌∷◌, ◌++◌, IsUtf8, Decides, refl, ap}
 use Rattle.std.proofs.lemmas.Bool.{false≢true}
-use Rattle.std.proofs.lemmas.Str.{IsUtf8-append, IsUtf8-nil}
+use Rattle.std.proofs.lemmas.Str.{IsUtf8-append}
 use Rattle.text.specs.Table.{WellFormed, joined}
 use Rattle.text.specs.Steps.{run, is_start, formed}
 use Rattle.text.specs.Cutting.{EachFormed}

@@ -6,7 +6,7 @@ use Rattle.text.specs.Alike.{Alike}
 use Rattle.text.specs.Classes.{class_of}
 use Rattle.text.specs.Steps.{next, run}
 use Rattle.text.specs.declared.checker.State.{State}
-use Rattle.text.specs.declared.checker.State.TheVariants.{Start, One, Two, Three, AfterE0, AfterEd, AfterF0, AfterF4, Broken}
+use Rattle.text.specs.declared.checker.State.TheVariants.{Start}
 use Rattle.text.proofs.Names.{same_state, state_same}
 use Rattle.text.proofs.Finite.{at_state}
 use Rattle.text.proofs.Pending.{pending, derive, tails, never}

@@ -1,5 +1,5 @@
 -- Classes and states as numbers, which a test compares.
-use Rattle.std.proofs.Common.{◌≡◌, ℕ, Bool, true, false, cond, T, eqb, sym, refl, ap, ◌∙◌, eqb→eq}
+use Rattle.std.proofs.Common.{◌≡◌, ℕ, Bool, cond, T, eqb, sym, refl, ap, ◌∙◌, eqb→eq}
 use Rattle.text.specs.declared.classes.Class.{Class}
 use Rattle.text.specs.declared.classes.Class.TheVariants.{Ascii, Low, Middle, High, LeadTwo, LeadE0, LeadThree, LeadEd, LeadF0, LeadFour, LeadF4, Never}
 use Rattle.text.specs.declared.checker.State.{State}

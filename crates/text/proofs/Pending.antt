@@ -1,5 +1,5 @@
 -- What a state waits for: the ranges of the bytes that are still to come; at `Broken` one that holds no byte.
-use Rattle.std.proofs.Common.{◌≡◌, ℕ, Bool, true, false, cond, T, eqb, List, [], ◌∷◌, refl, ap, ap₂, eqb→eq}
+use Rattle.std.proofs.Common.{◌≡◌, ℕ, Bool, true, false, cond, T, eqb, List, [], ◌∷◌, refl, ap₂, eqb→eq}
 use Rattle.text.specs.Table.{Range, ◌to◌, table, inside}
 use Rattle.text.specs.declared.checker.State.{State}
 use Rattle.text.specs.declared.checker.State.TheVariants.{Start, One, Two, Three, AfterE0, AfterEd, AfterF0, AfterF4, Broken}

@@ -1,5 +1,5 @@
 -- The rule of the table of classes, at all of its entries, by one computed test.
-use Rattle.std.proofs.Common.{◌≡◌, ℕ, ◌<◌, ◌≤◌, Bool, true, false, cond, T, eqb, ltb, leb, List, [], ◌∷◌, ◌++◌, length, get_or, sym, refl, ap, ◌∙◌, subst, ap₂, ⊎_elim, arith, lit<, lit≤, eqb→eq}
+use Rattle.std.proofs.Common.{◌≡◌, ℕ, ◌<◌, ◌≤◌, Bool, false, cond, T, ltb, leb, List, [], ◌∷◌, ◌++◌, sym, refl, ap, ◌∙◌, ap₂, ⊎_elim, arith, lit<, lit≤}
 use Rattle.std.proofs.lemmas.Bool.{cases_lt, lt-leb, le-ltb, and_right}
 use Rattle.text.specs.Table.{Range, ◌to◌, table, inside, one_of}
 use Rattle.text.specs.Classes.{class_of}

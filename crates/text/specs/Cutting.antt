@@ -1,5 +1,5 @@
 -- Where a well-formed text may be cut and joined, and the relation to `std`'s `Utf8`, which a `&str` carries in its type.
-use Rattle.std.specs.Prelude.{◌≡◌, ℕ, List, [], ◌∷◌, ◌++◌, IsUtf8, ◌≢◌}
+use Rattle.std.specs.Prelude.{ℕ, List, [], ◌∷◌, ◌++◌, IsUtf8, ◌≢◌}
 use Rattle.text.specs.Table.{WellFormed, joined}
 
 -- what stands before and after a well-formed delimiter that is not empty is well-formed

@@ -1,5 +1,7 @@
 //! Text: bytes that are well-formed UTF-8 by the Unicode Standard's table of byte sequences.
 //! A byte's class, a checker that steps through a text, and the opening of bytes as text.
+#![tactic(auto)]
+
 ghost use Rattle.std.specs.Prelude.{◌≡◌, Decides};
 ghost use Rattle.text.specs.Cutting.{SidesFormed, JoiningsFormed, SameAsStd};
 ghost use Rattle.text.specs.Opening.{text_of, opened};

@@ -1,5 +1,5 @@
 -- The definition meets the rule, and the rule leaves no other answer.
-use Rattle.std.proofs.Common.{◌≡◌, ℕ, ◌+◌, ◌≤◌, Bool, true, false, List, [], ◌∷◌, ◌++◌, length, IsUtf8, MatchBool, sym, refl, ap, ◌∙◌, subst, arith, length-append}
+use Rattle.std.proofs.Common.{◌≡◌, ℕ, ◌≤◌, Bool, true, false, List, [], ◌∷◌, ◌++◌, length, IsUtf8, MatchBool, sym, refl, ap, ◌∙◌, subst, arith, length-append}
 use lib.Utf8.{encodes}
 use Rattle.std.specs.Char.{char_set_contains}
 use Rattle.std.specs.List.{ContainsAt as Has, AllByRecursion as All}

@@ -1,4 +1,4 @@
-use Rattle.std.proofs.Common.{◌≡◌, ℕ, List, IsUtf8, subst, arith}
+use Rattle.std.proofs.Common.{ℕ, List, IsUtf8, subst, arith}
 use Rattle.std.proofs.lemmas.Str.{IsCharBoundary-start}
 use Rattle.search.specs.Places.{Stands}
 use Rattle.split.proofs.Seams.{sides}

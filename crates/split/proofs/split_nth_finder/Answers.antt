@@ -1,6 +1,5 @@
-use Rattle.std.proofs.Common.{◌≡◌, ◌+◌, Some, IsUtf8, sym, ap, ◌∙◌, subst, arith}
+use Rattle.std.proofs.Common.{Some, IsUtf8, sym, ap, ◌∙◌, subst, arith}
 use Rattle.std.specs.Option.{option_map}
-use Rattle.std.proofs.lemmas.List.{take_rest}
 use Rattle.split.specs.Fields.{part}
 use Rattle.split.proofs.Seams.{sides, walked_seam}
 use Rattle.split.proofs.Reaching.{left_field, left_last, left_gone}

@@ -1,7 +1,6 @@
 use Rattle.std.proofs.Common.{◌≡◌, Bool, Decides, sym, ap, ◌∙◌, subst}
 use Rattle.text.specs.Table.{WellFormed}
 use Rattle.text.specs.Steps.{run, is_start, formed}
-use Rattle.text.specs.declared.checker.State.TheVariants.{Start}
 use Rattle.text.proofs.Forms.{formed_decides}
 use Rattle.text.proofs.well_formed.Goals as goal
 

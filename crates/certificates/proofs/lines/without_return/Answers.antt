@@ -6,5 +6,5 @@ empty : (l : List ℕ) → length l ≡ 0 → l ≡ without_return l
 empty [] e = refl
 empty (b ∷ l) e = absurd (omega arith)
 
-pub returns-then-is-empty : goal.returns-then-is-empty
-returns-then-is-empty c = empty _ (eqb-true _ _ (sym c.if-is-empty.ensures))
+pub returns-then-is_empty : goal.returns-then-is_empty
+returns-then-is_empty c = empty _ (eqb-true _ _ (sym c.if-is_empty.ensures))

@@ -1,4 +1,4 @@
-use Rattle.std.proofs.Common.{◌≡◌, sym, ◌∙◌}
+use Rattle.std.proofs.Common.{sym, ◌∙◌}
 use Rattle.std.proofs.lemmas.Option.{MatchOption-from_none}
 use Rattle.split.proofs.Parts.{next_rest, none_rest}
 use Rattle.index.proofs.Picking.{left_gone, left_here, left_none}

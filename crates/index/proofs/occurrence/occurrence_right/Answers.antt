@@ -1,4 +1,4 @@
-use Rattle.std.proofs.Common.{◌≡◌, sym, ◌∙◌}
+use Rattle.std.proofs.Common.{sym, ◌∙◌}
 use Rattle.std.proofs.lemmas.Option.{MatchOption-from_none}
 use Rattle.split.proofs.Parts.{prior_front, none_front}
 use Rattle.index.proofs.Picking.{right_gone, right_here, right_none}

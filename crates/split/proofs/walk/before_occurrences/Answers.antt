@@ -1,4 +1,4 @@
-use Rattle.std.proofs.Common.{◌≡◌, ◌+◌, ◌-◌, length, sym, refl, ap, ◌∙◌, arith}
+use Rattle.std.proofs.Common.{◌+◌, ◌-◌, sym, ◌∙◌, arith}
 use Rattle.std.proofs.lemmas.Option.{MatchOption-from_none}
 use Rattle.split.proofs.Parts.{prior_front, none_front}
 use Rattle.split.proofs.Walks.{before_done, before_more, before_nothing}

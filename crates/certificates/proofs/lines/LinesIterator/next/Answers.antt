@@ -7,5 +7,5 @@ returns-in-Some c = record { steps = line_parts _ _ c.in-Some.ensures; goes = se
 
 pub returns-in-None : goal.returns-in-None
 returns-in-None c =
-    let some = false-eqb _ _ c.if-is-empty.ensures in
+    let some = false-eqb _ _ c.if-is_empty.ensures in
     record { steps = line_whole _ (omega (arith, some)) c.in-None.ensures; goes = search rules }

@@ -1,4 +1,4 @@
-use Rattle.std.proofs.Common.{◌≡◌, ℕ, Bool, true, false, cond, eqb, List, [], ◌∷◌, length, get_or, Some, None, sym, ap, ◌∙◌, subst, arith, eq-eqb, ne_eqb}
+use Rattle.std.proofs.Common.{◌≡◌, ℕ, Bool, true, false, cond, eqb, List, [], ◌∷◌, length, get_or, Some, None, sym, ap, ◌∙◌, eq-eqb, ne_eqb}
 use Rattle.search.specs.Places.{if_one_byte}
 use Rattle.search.proofs.Single.{one_is_ascii, only}
 use Rattle.search.proofs.one_byte.OneByte.new.Goals as goal
