@@ -17,14 +17,14 @@ fn fill<'t, C: Call<'t>, O: Output>(
     out: &mut O,
     at: &mut usize,
 ) -> Result<(), Fault>
-    requires { rows ≡ (request call.now).size }
-    ensures kept { kept out.new ≡ kept out.old }
-    ensures rule { rule out.new ≡ rule out.old }
-    ensures base { base out.new ≡ base out.old }
-    ensures taken { taken out.new ≡ taken out.old }
-    ensures sizes { sizes out.new ≡ sizes out.old }
-    ensures pieces { ended result (kept out.old ++ pending out.new) at.new ≡ fed (on_rows (rule out.old)) (kept out.old ++ pending out.old) 0 (asked_by (taken out.old) (request call.now)).offers }
-    ensures rows { Over (base out.old) (request call.now).drawn → ended result (map row_of (kept out.old ++ pending out.new)) at.new ≡ fed (rule out.old) (map row_of (kept out.old ++ pending out.old)) 0 (asked_rows (request call.now)).offers }
+    requires { rows ≡ (C.request call.now).size }
+    ensures kept { O.kept out.new ≡ O.kept out.old }
+    ensures rule { O.rule out.new ≡ O.rule out.old }
+    ensures base { O.base out.new ≡ O.base out.old }
+    ensures taken { O.taken out.new ≡ O.taken out.old }
+    ensures sizes { O.sizes out.new ≡ O.sizes out.old }
+    ensures pieces { ended result (O.kept out.old ++ O.pending out.new) at.new ≡ fed (on_rows (O.rule out.old)) (O.kept out.old ++ O.pending out.old) 0 (asked_by (O.taken out.old) (C.request call.now)).offers }
+    ensures rows { Over (O.base out.old) (C.request call.now).drawn → ended result (map row_of (O.kept out.old ++ O.pending out.new)) at.new ≡ fed (O.rule out.old) (map row_of (O.kept out.old ++ O.pending out.old)) 0 (asked_rows (C.request call.now)).offers }
 {
     out.faithful();
     for row in 0..rows {
@@ -38,15 +38,15 @@ fn fill<'t, C: Call<'t>, O: Output>(
 /// Makes a call: drops the rows left pending, adds the call's rows and keeps them, or at the first fault none, and
 /// answers how many were added. The answer and the rows kept are the book's. After a refusal the output is as found.
 pub fn make<'t, C: Call<'t>, O: Output>(call: &C, out: &mut O) -> Result<usize, Fault>
-    ensures answer { result ≡ answer (on_rows (rule out.old)) (kept out.old) (asked_by (taken out.old) (request call.now)) }
-    ensures kept { kept out.new ≡ after (on_rows (rule out.old)) (kept out.old) (asked_by (taken out.old) (request call.now)) }
-    ensures book { Over (base out.old) (request call.now).drawn → Booked (rule out.old) (map row_of (kept out.old)) (asked_rows (request call.now)) result (map row_of (kept out.new)) }
-    ensures pending { pending out.new ≡ [] }
-    ensures rule { rule out.new ≡ rule out.old }
-    ensures base { base out.new ≡ base out.old }
-    ensures taken { taken out.new ≡ taken out.old }
-    ensures sizes { sizes out.new ≡ sizes out.old }
-    ensures memory { is_ok result ≡ false → (found : O) → sizes found ≡ sizes out.old → kept found ≡ kept out.old → pending found ≡ [] → memory out.new ≡ memory found }
+    ensures answer { result ≡ answer (on_rows (O.rule out.old)) (O.kept out.old) (asked_by (O.taken out.old) (C.request call.now)) }
+    ensures kept { O.kept out.new ≡ after (on_rows (O.rule out.old)) (O.kept out.old) (asked_by (O.taken out.old) (C.request call.now)) }
+    ensures book { Over (O.base out.old) (C.request call.now).drawn → Booked (O.rule out.old) (map row_of (O.kept out.old)) (asked_rows (C.request call.now)) result (map row_of (O.kept out.new)) }
+    ensures pending { O.pending out.new ≡ [] }
+    ensures rule { O.rule out.new ≡ O.rule out.old }
+    ensures base { O.base out.new ≡ O.base out.old }
+    ensures taken { O.taken out.new ≡ O.taken out.old }
+    ensures sizes { O.sizes out.new ≡ O.sizes out.old }
+    ensures memory { is_ok result ≡ false → (found : O) → O.sizes found ≡ O.sizes out.old → O.kept found ≡ O.kept out.old → O.pending found ≡ [] → O.memory out.new ≡ O.memory found }
 {
     let slip = out.open();
     out.discard(slip);

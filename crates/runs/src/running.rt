@@ -17,15 +17,15 @@ fn make_number<'t, L: CallList<'t>, O: Output>(
     number: usize,
     out: &mut O,
 ) -> Result<usize, Fault>
-    requires { number < length (requests calls.now) }
-    ensures answer { result ≡ answer (on_rows (rule out.old)) (kept out.old) (asked_by (taken out.old) (slice_index_or (requests calls.now) number nothing)) }
-    ensures kept { kept out.new ≡ after (on_rows (rule out.old)) (kept out.old) (asked_by (taken out.old) (slice_index_or (requests calls.now) number nothing)) }
-    ensures book { Over (base out.old) (get_or (requests calls.now) number nothing).drawn → Booked (rule out.old) (map row_of (kept out.old)) (asked_rows (slice_index_or (requests calls.now) number nothing)) result (map row_of (kept out.new)) }
-    ensures pending { pending out.new ≡ [] }
-    ensures rule { rule out.new ≡ rule out.old }
-    ensures base { base out.new ≡ base out.old }
-    ensures taken { taken out.new ≡ taken out.old }
-    ensures sizes { sizes out.new ≡ sizes out.old }
+    requires { number < length (L.requests calls.now) }
+    ensures answer { result ≡ answer (on_rows (O.rule out.old)) (O.kept out.old) (asked_by (O.taken out.old) (slice_index_or (L.requests calls.now) number nothing)) }
+    ensures kept { O.kept out.new ≡ after (on_rows (O.rule out.old)) (O.kept out.old) (asked_by (O.taken out.old) (slice_index_or (L.requests calls.now) number nothing)) }
+    ensures book { Over (O.base out.old) (get_or (L.requests calls.now) number nothing).drawn → Booked (O.rule out.old) (map row_of (O.kept out.old)) (asked_rows (slice_index_or (L.requests calls.now) number nothing)) result (map row_of (O.kept out.new)) }
+    ensures pending { O.pending out.new ≡ [] }
+    ensures rule { O.rule out.new ≡ O.rule out.old }
+    ensures base { O.base out.new ≡ O.base out.old }
+    ensures taken { O.taken out.new ≡ O.taken out.old }
+    ensures sizes { O.sizes out.new ≡ O.sizes out.old }
 {
     match calls.call(number) {
         Some(call) => make(&call, out),
@@ -40,14 +40,14 @@ pub fn run<'t, L: CallList<'t>, O: Output>(
     calls: &L,
     out: &mut O,
 ) -> Result<Vec<Result<usize, Fault>>, AllocError>
-    ensures told { IfOk result (λ v. v.items ≡ answers (on_rows (rule out.old)) (kept out.old) (map (asked_by (taken out.old)) (requests calls.now))) }
-    ensures kept { MatchResult result (λ _. kept out.new ≡ after_all (on_rows (rule out.old)) (kept out.old) (map (asked_by (taken out.old)) (requests calls.now))) (λ _. out.new ≡ out.old) }
-    ensures runs { IfOk result (λ v. AllOver (base out.old) (requests calls.now) → Runs (rule out.old) (map row_of (kept out.old)) (map asked_rows (requests calls.now)) v.items (map row_of (kept out.new))) }
-    ensures pending { OnOk result (pending out.new ≡ []) }
-    ensures rule { rule out.new ≡ rule out.old }
-    ensures base { base out.new ≡ base out.old }
-    ensures taken { taken out.new ≡ taken out.old }
-    ensures sizes { sizes out.new ≡ sizes out.old }
+    ensures told { IfOk result (λ v. v.items ≡ answers (on_rows (O.rule out.old)) (O.kept out.old) (map (asked_by (O.taken out.old)) (L.requests calls.now))) }
+    ensures kept { MatchResult result (λ _. O.kept out.new ≡ after_all (on_rows (O.rule out.old)) (O.kept out.old) (map (asked_by (O.taken out.old)) (L.requests calls.now))) (λ _. out.new ≡ out.old) }
+    ensures runs { IfOk result (λ v. AllOver (O.base out.old) (L.requests calls.now) → Runs (O.rule out.old) (map row_of (O.kept out.old)) (map asked_rows (L.requests calls.now)) v.items (map row_of (O.kept out.new))) }
+    ensures pending { OnOk result (O.pending out.new ≡ []) }
+    ensures rule { O.rule out.new ≡ O.rule out.old }
+    ensures base { O.base out.new ≡ O.base out.old }
+    ensures taken { O.taken out.new ≡ O.taken out.old }
+    ensures sizes { O.sizes out.new ≡ O.sizes out.old }
 {
     let mut told = Vec::with_capacity(heap, calls.len())?;
     let slip = out.open();
@@ -72,11 +72,11 @@ pub fn run_and_finish<'t, L: CallList<'t>, O: Output>(
     calls: &L,
     out: O,
 ) -> Finished<O::Memory>
-    ensures runs { IfOk result.told (λ v. AllOver (base out) (requests calls.now) → Runs (rule out) (map row_of (kept out)) (map asked_rows (requests calls.now)) v.items (reading result.memory result.counts)) }
-    ensures untouched { OnErr result.told (reading result.memory result.counts ≡ map row_of (kept out)) }
-    ensures accepted { opened result.memory result.counts ≡ None }
-    ensures rows { result.counts.rows ≡ length (reading result.memory result.counts) }
-    ensures nulls { result.counts.nulls ≡ nulls_in (reading result.memory result.counts) }
+    ensures runs { IfOk result.told (λ v. AllOver (O.base out) (L.requests calls.now) → Runs (O.rule out) (map row_of (O.kept out)) (map asked_rows (L.requests calls.now)) v.items (O.reading result.memory result.counts)) }
+    ensures untouched { OnErr result.told (O.reading result.memory result.counts ≡ map row_of (O.kept out)) }
+    ensures accepted { O.opened result.memory result.counts ≡ None }
+    ensures rows { result.counts.rows ≡ length (O.reading result.memory result.counts) }
+    ensures nulls { result.counts.nulls ≡ nulls_in (O.reading result.memory result.counts) }
 {
     let mut out = out;
     let told = run(heap, calls, &mut out);

@@ -38,18 +38,18 @@ fn make_windows<'t, C: Divisible<'t> + Drop, O: Output>(
     windows: &[usize],
     out: &mut O,
 ) -> Told
-    requires cuttable { cuttable call.now ≡ true }
+    requires cuttable { C.cuttable call.now ≡ true }
     requires total { total windows.now ≡ (C.Call.request call.now).size }
     requires fits { total windows.now < 2 ^ 64 }
-    ensures all { result.all ≡ all_taken (answers (on_rows (rule out.old)) (kept out.old) (map (λ c. asked_by (taken out.old) (C.Call.request c)) (parts C.Divisible.part call.now 0 windows.now))) }
-    ensures sum { result.rows ≡ sum_told (answers (on_rows (rule out.old)) (kept out.old) (map (λ c. asked_by (taken out.old) (C.Call.request c)) (parts C.Divisible.part call.now 0 windows.now))) }
-    ensures kept { kept out.new ≡ after_all (on_rows (rule out.old)) (kept out.old) (map (λ c. asked_by (taken out.old) (C.Call.request c)) (parts C.Divisible.part call.now 0 windows.now)) }
-    ensures rows { Over (base out.old) (C.Call.request call.now).drawn → (result.all ≡ all_taken (answers (rule out.old) (map row_of (kept out.old)) (map (λ c. asked_rows (C.Call.request c)) (parts C.Divisible.part call.now 0 windows.now)))) × (result.rows ≡ sum_told (answers (rule out.old) (map row_of (kept out.old)) (map (λ c. asked_rows (C.Call.request c)) (parts C.Divisible.part call.now 0 windows.now)))) × (map row_of (kept out.new) ≡ after_all (rule out.old) (map row_of (kept out.old)) (map (λ c. asked_rows (C.Call.request c)) (parts C.Divisible.part call.now 0 windows.now))) }
-    ensures pending { (windows.now ≢ []) → pending out.new ≡ [] }
-    ensures rule { rule out.new ≡ rule out.old }
-    ensures base { base out.new ≡ base out.old }
-    ensures taken { taken out.new ≡ taken out.old }
-    ensures sizes { sizes out.new ≡ sizes out.old }
+    ensures all { result.all ≡ all_taken (answers (on_rows (O.rule out.old)) (O.kept out.old) (map (λ c. asked_by (O.taken out.old) (C.Call.request c)) (parts C.Divisible.part call.now 0 windows.now))) }
+    ensures sum { result.rows ≡ sum_told (answers (on_rows (O.rule out.old)) (O.kept out.old) (map (λ c. asked_by (O.taken out.old) (C.Call.request c)) (parts C.Divisible.part call.now 0 windows.now))) }
+    ensures kept { O.kept out.new ≡ after_all (on_rows (O.rule out.old)) (O.kept out.old) (map (λ c. asked_by (O.taken out.old) (C.Call.request c)) (parts C.Divisible.part call.now 0 windows.now)) }
+    ensures rows { Over (O.base out.old) (C.Call.request call.now).drawn → (result.all ≡ all_taken (answers (O.rule out.old) (map row_of (O.kept out.old)) (map (λ c. asked_rows (C.Call.request c)) (parts C.Divisible.part call.now 0 windows.now)))) × (result.rows ≡ sum_told (answers (O.rule out.old) (map row_of (O.kept out.old)) (map (λ c. asked_rows (C.Call.request c)) (parts C.Divisible.part call.now 0 windows.now)))) × (map row_of (O.kept out.new) ≡ after_all (O.rule out.old) (map row_of (O.kept out.old)) (map (λ c. asked_rows (C.Call.request c)) (parts C.Divisible.part call.now 0 windows.now))) }
+    ensures pending { (windows.now ≢ []) → O.pending out.new ≡ [] }
+    ensures rule { O.rule out.new ≡ O.rule out.old }
+    ensures base { O.base out.new ≡ O.base out.old }
+    ensures taken { O.taken out.new ≡ O.taken out.old }
+    ensures sizes { O.sizes out.new ≡ O.sizes out.old }
 {
     call.divides();
     let mut at = 0;
@@ -72,16 +72,16 @@ pub fn in_windows<'t, C: Divisible<'t> + Drop, O: Output>(
     windows: &[usize],
     out: &mut O,
 ) -> Option<Told>
-    ensures covers { is_some result ≡ covers (cuttable call.now) (C.Call.request call.now).size windows.now }
-    ensures told { MatchOption result (out.new ≡ out.old) (λ told. Agreed (answer (on_rows (rule out.old)) (kept out.old) (asked_by (taken out.old) (C.Call.request call.now))) (after (on_rows (rule out.old)) (kept out.old) (asked_by (taken out.old) (C.Call.request call.now))) told.all told.rows (kept out.new)) }
-    ensures kept { IfSome result (λ told. kept out.new ≡ after_all (on_rows (rule out.old)) (kept out.old) (map (λ c. asked_by (taken out.old) (C.Call.request c)) (parts C.Divisible.part call.now 0 windows.now))) }
-    ensures book { IfSome result (λ told. Over (base out.old) (C.Call.request call.now).drawn → Agreed (answer (rule out.old) (map row_of (kept out.old)) (asked_rows (C.Call.request call.now))) (after (rule out.old) (map row_of (kept out.old)) (asked_rows (C.Call.request call.now))) told.all told.rows (map row_of (kept out.new))) }
-    ensures pending { IfSome result (λ told. pending out.new ≡ []) }
-    ensures rule { rule out.new ≡ rule out.old }
-    ensures base { base out.new ≡ base out.old }
-    ensures taken { taken out.new ≡ taken out.old }
-    ensures sizes { sizes out.new ≡ sizes out.old }
-    ensures memory { IfSome result (λ told. told.all ≡ true → (whole : O) → sizes whole ≡ sizes out.old → kept whole ≡ after (on_rows (rule out.old)) (kept out.old) (asked_by (taken out.old) (C.Call.request call.now)) → pending whole ≡ [] → memory out.new ≡ memory whole) }
+    ensures covers { is_some result ≡ covers (C.cuttable call.now) (C.Call.request call.now).size windows.now }
+    ensures told { MatchOption result (out.new ≡ out.old) (λ told. Agreed (answer (on_rows (O.rule out.old)) (O.kept out.old) (asked_by (O.taken out.old) (C.Call.request call.now))) (after (on_rows (O.rule out.old)) (O.kept out.old) (asked_by (O.taken out.old) (C.Call.request call.now))) told.all told.rows (O.kept out.new)) }
+    ensures kept { IfSome result (λ told. O.kept out.new ≡ after_all (on_rows (O.rule out.old)) (O.kept out.old) (map (λ c. asked_by (O.taken out.old) (C.Call.request c)) (parts C.Divisible.part call.now 0 windows.now))) }
+    ensures book { IfSome result (λ told. Over (O.base out.old) (C.Call.request call.now).drawn → Agreed (answer (O.rule out.old) (map row_of (O.kept out.old)) (asked_rows (C.Call.request call.now))) (after (O.rule out.old) (map row_of (O.kept out.old)) (asked_rows (C.Call.request call.now))) told.all told.rows (map row_of (O.kept out.new))) }
+    ensures pending { IfSome result (λ told. O.pending out.new ≡ []) }
+    ensures rule { O.rule out.new ≡ O.rule out.old }
+    ensures base { O.base out.new ≡ O.base out.old }
+    ensures taken { O.taken out.new ≡ O.taken out.old }
+    ensures sizes { O.sizes out.new ≡ O.sizes out.old }
+    ensures memory { IfSome result (λ told. told.all ≡ true → (whole : O) → O.sizes whole ≡ O.sizes out.old → O.kept whole ≡ after (on_rows (O.rule out.old)) (O.kept out.old) (asked_by (O.taken out.old) (C.Call.request call.now)) → O.pending whole ≡ [] → O.memory out.new ≡ O.memory whole) }
 {
     if windows.len() == 0 || !call.is_cuttable() || !total_is(windows, call.rows()) {
         return None;
@@ -108,11 +108,11 @@ pub fn divided<'t, C: Divisible<'t> + Drop, O: Output>(
     a: &mut O,
     b: &mut O,
 ) -> Option<BothTold>
-    ensures covers { is_some result ≡ covers (cuttable call.now) (C.Call.request call.now).size windows.now }
+    ensures covers { is_some result ≡ covers (C.cuttable call.now) (C.Call.request call.now).size windows.now }
     ensures nothing { IfNone result ((a.new ≡ a.old) × (b.new ≡ b.old)) }
-    ensures whole { IfSome result (λ d. d.whole ≡ answer (on_rows (rule a.old)) (kept a.old) (asked_by (taken a.old) (C.Call.request call.now))) }
-    ensures agreed { IfSome result (λ d. rule a.old ≡ rule b.old → taken a.old ≡ taken b.old → kept a.old ≡ kept b.old → Agreed d.whole (kept a.new) d.windows.all d.windows.rows (kept b.new)) }
-    ensures memory { IfSome result (λ d. rule a.old ≡ rule b.old → taken a.old ≡ taken b.old → kept a.old ≡ kept b.old → sizes a.old ≡ sizes b.old → d.windows.all ≡ true → memory a.new ≡ memory b.new) }
+    ensures whole { IfSome result (λ d. d.whole ≡ answer (on_rows (O.rule a.old)) (O.kept a.old) (asked_by (O.taken a.old) (C.Call.request call.now))) }
+    ensures agreed { IfSome result (λ d. O.rule a.old ≡ O.rule b.old → O.taken a.old ≡ O.taken b.old → O.kept a.old ≡ O.kept b.old → Agreed d.whole (O.kept a.new) d.windows.all d.windows.rows (O.kept b.new)) }
+    ensures memory { IfSome result (λ d. O.rule a.old ≡ O.rule b.old → O.taken a.old ≡ O.taken b.old → O.kept a.old ≡ O.kept b.old → O.sizes a.old ≡ O.sizes b.old → d.windows.all ≡ true → O.memory a.new ≡ O.memory b.new) }
 {
     let windows = in_windows(call, windows, b)?;
     let whole = make(call, a);

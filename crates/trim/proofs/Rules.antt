@@ -2,7 +2,7 @@
 use Rattle.std.proofs.Common.{◌≡◌, ℕ, ◌≤◌, Bool, true, false, List, [], ◌∷◌, ◌++◌, length, IsUtf8, MatchBool, sym, refl, ap, ◌∙◌, subst, arith, length-append}
 use lib.Utf8.{encodes}
 use Rattle.std.specs.Char.{char_set_contains}
-use Rattle.std.specs.List.{ContainsAt as Has, AllByRecursion as All}
+use Rattle.std.specs.List.{ContainsAt as Has, AllByRecursion}
 use Rattle.std.specs.Str.{chars}
 use Rattle.std.proofs.lemmas.List.{append-nil, append_cancel_left, append_cancel_right}
 use Rattle.std.proofs.lemmas.Str.{encodes-append, encodes-chars, chars_from_encodes, chars-nil, IsUtf8-nil}
@@ -73,7 +73,7 @@ determined left right set row text place u t =
     λ i. ((t.reads ∙ ap encodes k) i, (t.starts ∙ ap (λ ds. length (encodes ds)) h) i)
 
 -- the two ends of the rule
-none_made : (cs : List ℕ) → All (Has []) cs → length cs ≤ 0
+none_made : (cs : List ℕ) → AllByRecursion (Has []) cs → length cs ≤ 0
 none_made [] a = omega arith
 none_made (c ∷ cs) a = absurd (omega (arith, a.0.1))
 

@@ -16,18 +16,18 @@ loop-number-preserved g c =
     let n = c.loop-number.number in
     let q = get_or qs n nothing in
     let i = c.loop-number.invariant in
-    let m = c.make-number.ensures in
+    let m = c.make_number.ensures in
     let h : n < length qs = omega arith in
     let room : vec_len c.loop-number.told < vec_capacity c.loop-number.told = omega arith in
     let fits : is_ok c.push.result ≡ true = c.push.ensures.succeeds room in
-    let pushed : vec_items c.push.new.self ≡ vec_items c.loop-number.told ++ c.make-number.result ∷ []
-    = c.push.ensures.items ∙ ap (λ b. cond b (vec_items c.loop-number.told ++ c.make-number.result ∷ []) (vec_items c.loop-number.told)) fits in
+    let pushed : vec_items c.push.new.self ≡ vec_items c.loop-number.told ++ c.make_number.result ∷ []
+    = c.push.ensures.items ∙ ap (λ b. cond b (vec_items c.loop-number.told ++ c.make_number.result ∷ []) (vec_items c.loop-number.told)) fits in
     let longer : vec_len c.push.new.self ≡ vec_len c.loop-number.told + 1
     = c.push.ensures.len ∙ ap (λ b. cond b (vec_len c.loop-number.told + 1) (vec_len c.loop-number.told)) fits in
     let left = left_calls qs n h in
-    let kept : O.kept c.make-number.new.out ≡ after (on_rows (O.rule o)) (O.kept out) (asked_by (O.taken o) q)
+    let kept : O.kept c.make_number.new.out ≡ after (on_rows (O.rule o)) (O.kept out) (asked_by (O.taken o) q)
     = m.kept ∙ ap (λ r. after (on_rows r) (O.kept out) (asked_by (O.taken out) q)) i.3 ∙ ap (λ t. after (on_rows (O.rule o)) (O.kept out) (asked_by t q)) i.5 in
-    let told : c.make-number.result ≡ answer (on_rows (O.rule o)) (O.kept out) (asked_by (O.taken o) q)
+    let told : c.make_number.result ≡ answer (on_rows (O.rule o)) (O.kept out) (asked_by (O.taken o) q)
     = m.answer ∙ ap (λ r. answer (on_rows r) (O.kept out) (asked_by (O.taken out) q)) i.3 ∙ ap (λ t. answer (on_rows (O.rule o)) (O.kept out) (asked_by t q)) i.5 in (
       longer ∙ ap (λ k. k + 1) i.0,
       (let more = c.push.ensures.capacity in let old = i.1 in omega arith),
@@ -36,18 +36,18 @@ loop-number-preserved g c =
       m.base ∙ i.4,
       m.taken ∙ i.5,
       m.sizes ∙ i.6,
-      book_step (asked_by (O.taken o)) qs n (on_rows (O.rule o)) (O.kept out) q left (O.kept c.make-number.new.out) kept _ i.7,
-      answers_step (asked_by (O.taken o)) qs n (on_rows (O.rule o)) (O.kept out) q left (O.kept c.make-number.new.out) kept
-          (vec_items c.loop-number.told) (vec_items c.push.new.self) _ c.make-number.result told pushed i.8,
+      book_step (asked_by (O.taken o)) qs n (on_rows (O.rule o)) (O.kept out) q left (O.kept c.make_number.new.out) kept _ i.7,
+      answers_step (asked_by (O.taken o)) qs n (on_rows (O.rule o)) (O.kept out) q left (O.kept c.make_number.new.out) kept
+          (vec_items c.loop-number.told) (vec_items c.push.new.self) _ c.make_number.result told pushed i.8,
       λ over.
           let b = m.book (rw i.4 (over_at (O.base o) qs n h over)) in
-          book_step asked_rows qs n (O.rule o) (map row_of (O.kept out)) q left (map row_of (O.kept c.make-number.new.out))
+          book_step asked_rows qs n (O.rule o) (map row_of (O.kept out)) q left (map row_of (O.kept c.make_number.new.out))
           (b.rows_are ∙ ap (λ r. after r (map row_of (O.kept out)) (asked_rows q)) i.3) _ (i.9 over),
       λ over.
           let b = m.book (rw i.4 (over_at (O.base o) qs n h over)) in
-          answers_step asked_rows qs n (O.rule o) (map row_of (O.kept out)) q left (map row_of (O.kept c.make-number.new.out))
+          answers_step asked_rows qs n (O.rule o) (map row_of (O.kept out)) q left (map row_of (O.kept c.make_number.new.out))
           (b.rows_are ∙ ap (λ r. after r (map row_of (O.kept out)) (asked_rows q)) i.3)
-          (vec_items c.loop-number.told) (vec_items c.push.new.self) _ c.make-number.result
+          (vec_items c.loop-number.told) (vec_items c.push.new.self) _ c.make_number.result
           (b.answer_is ∙ ap (λ r. answer r (map row_of (O.kept out)) (asked_rows q)) i.3) pushed (i.10 over),
     )
 

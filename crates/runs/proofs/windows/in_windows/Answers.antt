@@ -20,20 +20,20 @@ cover ws cuttable size h c e = rw (some_are ws h, c) (eq-eqb (total ws) size e)
 
 -- the windows have the call's rows together
 sum_is : (g : given.Over) (c : goal.After-fixed g) → total c.args.windows.now ≡ (g.C.Call.request c.args.call.now).size
-sum_is g c = eqb-true (total c.args.windows.now) c.rows.result (sym c.total-is.ensures ∙ c.if-not-total-is.false) ∙ c.rows.ensures
+sum_is g c = eqb-true (total c.args.windows.now) c.rows.result (sym c.total_is.ensures ∙ c.if-not-total_is.false) ∙ c.rows.ensures
 
 pub returns : goal.returns
 returns g c =
     let O = g.O.Output in
     let o = c.args.out.now in
-    let last = c.make-windows-told.new.out in
+    let last = c.make_windows-told.new.out in
     let req = g.C.Call.request in
     let part = g.C.Divisible.part in
     let call = c.args.call.now in
     let ws = c.args.windows.now in
-    let e = c.make-windows-told.ensures in
-    let told = c.make-windows-told.result in
-    let can : g.C.Divisible.cuttable call ≡ true = sym c.is-cuttable.ensures ∙ c.if-not-is-cuttable.false in
+    let e = c.make_windows-told.ensures in
+    let told = c.make_windows-told.result in
+    let can : g.C.Divisible.cuttable call ≡ true = sym c.is_cuttable.ensures ∙ c.if-not-is_cuttable.false in
     let law = c.divides.ensures can in
     let agreed = division_of req part call law (O.taken o) (on_rows (O.rule o)) (O.kept o) ws c.if-windows-eq0.false (sum_is g c) told.all told.rows (O.kept last) e.all e.sum e.kept in
     let none = e.pending (none_empty ws c.if-windows-eq0.false) in

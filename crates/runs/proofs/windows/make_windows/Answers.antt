@@ -11,26 +11,26 @@ use Rattle.runs.proofs.windows.make_windows.Goals as goal
 use Rattle.runs.proofs.windows.make_windows.Given as given
 
 -- what a window told is at most its rows
-most : (g : given.Over) (c : goal.After-unwrap-or-rows g) → c.unwrap-or-rows.result ≤ get_or c.args.windows.now c.loop-window.window-index 0
+most : (g : given.Over) (c : goal.After-unwrap_or-rows g) → c.unwrap_or-rows.result ≤ get_or c.args.windows.now c.loop-window.window-index 0
 most g c =
     let O = g.O.Output in
     let out = c.loop-window.out in
     let n = get_or c.args.windows.now c.loop-window.window-index 0 in
     let law = c.divides.ensures c.requires.cuttable in
     let t = told_part g.C.Call.request g.C.Divisible.part c.args.call.now law (O.taken out) (on_rows (O.rule out)) (O.kept out) c.loop-window.at n in
-    let e : c.unwrap-or-rows.result ≡ result_unwrap_or (answer (on_rows (O.rule out)) (O.kept out) (asked_by (O.taken out) (g.C.Call.request (g.C.Divisible.part c.args.call.now c.loop-window.at n)))) 0
-    = c.unwrap-or-rows.ensures ∙ ap (λ a. result_unwrap_or a 0) (c.make-told.ensures.answer ∙ ap (λ w. answer (on_rows (O.rule out)) (O.kept out) (asked_by (O.taken out) (g.C.Call.request w))) c.window.ensures) in
+    let e : c.unwrap_or-rows.result ≡ result_unwrap_or (answer (on_rows (O.rule out)) (O.kept out) (asked_by (O.taken out) (g.C.Call.request (g.C.Divisible.part c.args.call.now c.loop-window.at n)))) 0
+    = c.unwrap_or-rows.ensures ∙ ap (λ a. result_unwrap_or a 0) (c.make-told.ensures.answer ∙ ap (λ w. answer (on_rows (O.rule out)) (O.kept out) (asked_by (O.taken out) (g.C.Call.request w))) c.window.ensures) in
     omega (arith, t, e)
 
-left : (g : given.Over) (c : goal.After-unwrap-or-rows g)
+left : (g : given.Over) (c : goal.After-unwrap_or-rows g)
     → total (drop c.loop-window.window-index c.args.windows.now) ≡ get_or c.args.windows.now c.loop-window.window-index 0 + total (drop (c.loop-window.window-index + 1) c.args.windows.now)
 left g c = at_drop_more total c.args.windows.now c.loop-window.window-index 0 c.loop-window-test.true
 
-pub overflow-add-rows : goal.overflow-add-rows
-overflow-add-rows g c = let m = most g c in let l = left g c in let i = c.loop-window.invariant.0 in let j = c.loop-window.invariant.1 in let f = c.requires.fits in omega arith
+pub overflow_add-rows : goal.overflow_add-rows
+overflow_add-rows g c = let m = most g c in let l = left g c in let i = c.loop-window.invariant.0 in let j = c.loop-window.invariant.1 in let f = c.requires.fits in omega arith
 
-pub overflow-add-at : goal.overflow-add-at
-overflow-add-at g c = let l = left g c in let i = c.loop-window.invariant.0 in let f = c.requires.fits in omega arith
+pub overflow_add-at : goal.overflow_add-at
+overflow_add-at g c = let l = left g c in let i = c.loop-window.invariant.0 in let f = c.requires.fits in omega arith
 
 pub loop-window-preserved : goal.loop-window-preserved
 loop-window-preserved g c =
@@ -67,9 +67,9 @@ loop-window-preserved g c =
       (λ _. e.pending),
       part_book part ask call at ws k (on_rows (O.rule o)) (O.kept out) h x c.window.ensures (O.kept last) kept _ i.7,
       part_all part ask call at ws k (on_rows (O.rule o)) (O.kept out) h x c.window.ensures (O.kept last) kept c.make-told.result told
-          c.loop-window.all c.is-ok-all.result _ c.is-ok-all.ensures.value i.8,
+          c.loop-window.all c.is_ok-all.result _ c.is_ok-all.ensures.value i.8,
       part_sum part ask call at ws k (on_rows (O.rule o)) (O.kept out) h x c.window.ensures (O.kept last) kept c.make-told.result told
-          c.loop-window.rows c.unwrap-or-rows.result _ c.unwrap-or-rows.ensures i.9,
+          c.loop-window.rows c.unwrap_or-rows.result _ c.unwrap_or-rows.ensures i.9,
       (λ over.
           let source : (req x).drawn ≡ (req call).drawn = ap (λ y. (req y).drawn) c.window.ensures ∙ law.same_source at (get_or ws k 0) in
           let b = e.book (rw (i.3, source) over) in
@@ -79,9 +79,9 @@ loop-window-preserved g c =
           let ask-rows = λ (y : g.row.C.Denot). asked_rows (req y) in (
             part_book part ask-rows call at ws k (O.rule o) (map row_of (O.kept out)) h x c.window.ensures (map row_of (O.kept last)) rows-kept _ v.0,
             part_all part ask-rows call at ws k (O.rule o) (map row_of (O.kept out)) h x c.window.ensures (map row_of (O.kept last)) rows-kept c.make-told.result rows_told
-                c.loop-window.all c.is-ok-all.result _ c.is-ok-all.ensures.value v.1,
+                c.loop-window.all c.is_ok-all.result _ c.is_ok-all.ensures.value v.1,
             part_sum part ask-rows call at ws k (O.rule o) (map row_of (O.kept out)) h x c.window.ensures (map row_of (O.kept last)) rows-kept c.make-told.result rows_told
-                c.loop-window.rows c.unwrap-or-rows.result _ c.unwrap-or-rows.ensures v.2,
+                c.loop-window.rows c.unwrap_or-rows.result _ c.unwrap_or-rows.ensures v.2,
           )),
     )
 
