@@ -27,7 +27,7 @@ pub trait Cutting {
         finder: &F,
         number: i64,
     ) -> Result<(&'t str, u64), Fault>
-        ensures answer { answered result ≡ cut (delimiter finder.now) row.now number }
+        ensures answer { answered result ≡ cut (F.delimiter finder.now) row.now number }
         ensures within { IfOk result (λ p. p.0.now ≡ take (length p.0.now) (drop p.1 row.now)) };
 }
 

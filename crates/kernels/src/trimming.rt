@@ -83,7 +83,7 @@ impl<'a, D> Characters<'a, D> {
 
 /// What remains of a row, and its place there.
 fn trim_row<'t, T: Trimmer>(row: &'t str, set: &str) -> (&'t str, u64)
-    ensures answer { part result ≡ trimmed left right set.now row.now }
+    ensures answer { part result ≡ trimmed T.left T.right set.now row.now }
     ensures within { result.0.now ≡ take (length result.0.now) (drop result.1 row.now) }
 {
     T::trim(row, set)

@@ -12,5 +12,5 @@ lies d t n (Err f) e = tt
 pub returns : goal.returns
 returns g c =
     let d = g.F.Searcher.delimiter c.args.finder.now in
-    let e : answered c.split-part.result ≡ field_at d c.args.row.now c.args.number = search rules in
-    record { answer = e; within = lies d c.args.row.now c.args.number c.split-part.result e }
+    let e : answered c.split_part.result ≡ field_at d c.args.row.now c.args.number = search rules in
+    record { answer = e; within = lies d c.args.row.now c.args.number c.split_part.result e }

@@ -7,5 +7,5 @@ use Rattle.kernels.proofs.cutting.SubstrIndexCutting.cut_row.Goals as goal
 pub returns : goal.returns
 returns g c =
     let d = g.F.Searcher.delimiter c.args.finder.now in
-    let e : part c.substr-index.result ≡ index_at d c.args.row.now c.args.number = search rules in
-    record { answer = ap Ok e; within = index_lies d c.args.row.now c.args.number (part c.substr-index.result) e }
+    let e : part c.substr_index.result ≡ index_at d c.args.row.now c.args.number = search rules in
+    record { answer = ap Ok e; within = index_lies d c.args.row.now c.args.number (part c.substr_index.result) e }
