@@ -1,4 +1,4 @@
-use Rattle.std.proofs.Common.{◌+◌, length, take, refl, ap, ◌∙◌, arith, length-take}
+use Rattle.std.proofs.Common.{◌+◌, take, refl, ap, ◌∙◌, arith, length-take}
 use lib.Seq.{paste}
 use Rattle.std.proofs.lemmas.List.{length-take-le}
 use Rattle.view_cells.proofs.Pastes.{long_written}

@@ -1,4 +1,4 @@
-use Rattle.std.proofs.Common.{length, arith}
+use Rattle.std.proofs.Common.{arith}
 use Rattle.view_cells.proofs.Pastes.{short_written}
 use Rattle.view_cells.proofs.cells.put_short.Goals as goal
 

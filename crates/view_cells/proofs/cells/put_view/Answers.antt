@@ -1,4 +1,4 @@
-use Rattle.std.proofs.Common.{◌≡◌, true, false, cond, leb, length, sym, ap, ◌∙◌, arith}
+use Rattle.std.proofs.Common.{leb, length, sym, ap, ◌∙◌, arith}
 use lib.Seq.{paste}
 use Rattle.std.proofs.lemmas.Bool.{le-leb, lt-leb, cond-true, cond-false}
 use Rattle.view_cells.specs.Views.{view_of}
