@@ -1,13 +1,12 @@
 -- The view of a text reads as the text, and keeps the rules.
-use Rattle.std.proofs.Common.{◌≡◌, ℕ, zero, suc, ◌+◌, ◌-◌, ◌*◌, ◌/◌, ◌%◌, ◌^◌, ◌<◌, ◌≤◌, Bool, true, false, cond, ◌&&◌, eqb, leb, List, [], ◌∷◌, ◌++◌, length, get_or, take, drop, replicate, Decides, sym, refl, ap, ◌∙◌, inl, inr, mod-eq_of_lt, arith}
-use Rattle.std.proofs.lemmas.List.{length-drop, take_at, take_all, take-take, drop_at, drop-drop, drop-take, length-append, length-replicate, length-take}
-use Rattle.std.proofs.lemmas.Bool.{le-leb, lt-leb, lt-ltb, cond-true, cond-false, cases_lt, and_from, eq-eqb}
+use Rattle.std.proofs.Common.{◌≡◌, ℕ, zero, suc, ◌+◌, ◌-◌, ◌*◌, ◌/◌, ◌%◌, ◌<◌, ◌≤◌, true, leb, List, [], ◌∷◌, ◌++◌, length, take, drop, sym, refl, ap, ◌∙◌, inl, inr, mod-eq_of_lt, arith}
+use Rattle.std.proofs.lemmas.List.{take_at, take_all, take-take, drop_at, drop-drop, length-append, length-replicate, length-take}
+use Rattle.std.proofs.lemmas.Bool.{le-leb, lt-leb, lt-ltb, cond-true, cond-false, cases_lt, and_from}
 use Rattle.std.proofs.lemmas.Nat.{shr-shr, div-add-mod', div_below}
-use Rattle.std.specs.Str.{bytes_eq}
 use Rattle.std.proofs.lemmas.Slice.Eq.{bytes_eq-Decides}
-use Rattle.views.specs.Layout.{Data, LiesIn, part, word, size, buffer, offset, buffer_start, buffer_end, text, fits, blank, short_rule, in_buffer, long_rule, place}
+use Rattle.views.specs.Layout.{Data, LiesIn, part, word, size, buffer, offset, buffer_start, buffer_end, text, fits, blank, in_buffer, place}
 use Rattle.writing.specs.Padding.{zeros}
-use Rattle.view_cells.specs.Views.{word_bytes, short_view, long_view, view_of}
+use Rattle.view_cells.specs.Views.{short_view, long_view, view_of}
 use Rattle.views.proofs.Views.{fits_short, fits_long, text_short, text_long}
 
 digits : (n q1 q2 q3 r1 r2 r3 r4 : ℕ) → q1 * 256 + r1 ≡ n → q2 * 256 + r2 ≡ q1 → q3 * 256 + r3 ≡ q2 → r4 ≡ q3 → r1 + 256 * r2 + 65536 * r3 + 16777216 * r4 ≡ n

@@ -1,2 +1,4 @@
 //! The views that stand for texts, as bytes in lent memory.
+#![tactic(auto)]
+
 pub mod cells;

@@ -1,10 +1,10 @@
 -- Memory that holds rows reads as these rows, and may be opened as a column.
-use Rattle.std.proofs.Common.{◌≡◌, ℕ, zero, suc, ◌+◌, ◌-◌, ◌*◌, ◌/◌, ◌<◌, ◌≤◌, min, Bool, true, false, cond, ◌&&◌, eqb, leb, ◌⊎◌, List, [], ◌∷◌, ◌++◌, map, length, get_or, take, drop, Some, None, Option, sym, refl, ap, ◌∙◌, subst, inl, inr, arith}
+use Rattle.std.proofs.Common.{◌≡◌, ℕ, zero, suc, ◌+◌, ◌-◌, ◌*◌, ◌/◌, ◌<◌, ◌≤◌, true, false, cond, eqb, leb, ◌⊎◌, List, [], ◌∷◌, ◌++◌, length, get_or, take, drop, Some, None, sym, refl, ap, ◌∙◌, subst, inl, inr, arith}
 use Rattle.std.proofs.lemmas.List.{same_lists, take-append-drop, drop_more, get_or_default}
 use Rattle.std.proofs.lemmas.Bool.{and_from, and_parts, cases_lt, le-leb, leb-true}
 use Rattle.fault.specs.declared.Fault.TheVariants.{ShortList, BufferEnd, View, Malformed}
-use Rattle.bitmap.specs.Validity.{bit, covers, valid}
-use Rattle.source.specs.Rows.{Row, rows_by}
+use Rattle.bitmap.specs.Validity.{bit, valid}
+use Rattle.source.specs.Rows.{Row}
 use Rattle.source.specs.Verdicts.{Verdict, unless, then, first_fault, malformed}
 use Rattle.source.proofs.Numbered.{length_rows_by, at_rows_by}
 use Rattle.text.specs.Steps.{formed}
@@ -13,13 +13,12 @@ use Rattle.views.specs.Verdict.{enough, end_holds, end_fault, ends_fault, row_fa
 use Rattle.view_cells.specs.Views.{view_of}
 use Rattle.view_cells.proofs.Decode.{view_text, view_fits, view_short}
 use Rattle.writing.specs.Padding.{zeros, padded}
-use Rattle.writing.specs.Bitmaps.{bit_of, bitmap_of}
+use Rattle.writing.specs.Bitmaps.{bit_of}
 use Rattle.writing.proofs.Padding.{take_padded}
 use Rattle.writing.proofs.Bitmaps.{bit_bitmap}
 use Rattle.view_memory.specs.Layout.{nothing, with_text, with_row, with_rows, buffers_of, buffer_for, offset_for, view_for, views_from, views_of, ends_of, data_of}
-use Rattle.view_memory.specs.Rule.{capacity, end_capacity}
 use Rattle.view_memory.specs.Holding.{sound_row, lists_of, Holds}
-use Rattle.view_memory.proofs.Growing.{Ordered, Grows, grows_on, grows_padded, lies_grown, text_lies}
+use Rattle.view_memory.proofs.Growing.{Ordered, Grows, grows_padded, lies_grown, text_lies}
 use Rattle.view_memory.proofs.Laying.{rows_keep, with_append, rows_ordered, row_long, view_at}
 
 -- A row among others

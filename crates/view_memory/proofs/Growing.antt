@@ -1,6 +1,6 @@
 -- Buffers that texts are added to: what lies in them stays where it is.
-use Rattle.std.proofs.Common.{◌≡◌, ℕ, zero, suc, ◌+◌, ◌-◌, ◌<◌, ◌≤◌, Bool, true, false, cond, eqb, ltb, leb, ◌⊎◌, List, [], ◌∷◌, ◌++◌, length, get_or, take, drop, sym, refl, ap, ◌∙◌, inl, inr, append_assoc, arith}
-use Rattle.std.proofs.lemmas.List.{length-append, length-take, length-take-le, length-drop, length_push, take_all, take_at, take-take, take-append-le, drop_at, drop-append-le, drop_all, append-nil, get_or-take, get_or_push, get_or_append_left}
+use Rattle.std.proofs.Common.{◌≡◌, ℕ, ◌+◌, ◌-◌, ◌<◌, ◌≤◌, false, eqb, ltb, List, [], ◌++◌, length, get_or, take, drop, sym, refl, ap, ◌∙◌, inl, inr, append_assoc, arith}
+use Rattle.std.proofs.lemmas.List.{length-append, length-take, length-take-le, length-drop, length_push, take_all, take-take, take-append-le, drop_at, drop-append-le, drop_all, append-nil, get_or-take, get_or_push}
 use Rattle.std.proofs.lemmas.Bool.{cases_Bool, cases_eq, cases_lt, cond-true, cond-false, ne_eqb, eqb-false, ltb-false, or_parts}
 use Rattle.views.specs.Layout.{Data, LiesIn, part, buffer_start, buffer_end}
 use Rattle.view_memory.specs.Layout.{nothing, filled, opens, buffer_for, offset_for, with_text}

@@ -1,10 +1,9 @@
 -- Rows in buffers and views, one after the other.
-use Rattle.std.proofs.Common.{◌≡◌, ℕ, zero, suc, ◌+◌, ◌-◌, ◌*◌, ◌<◌, ◌≤◌, Bool, true, false, cond, leb, ◌⊎◌, List, [], ◌∷◌, ◌++◌, length, get_or, take, drop, Some, None, sym, refl, ap, ◌∙◌, subst, inl, inr, append_assoc, arith}
-use Rattle.std.proofs.lemmas.List.{append-nil, length-append, length-replicate, take_at, drop_at, drop-drop, drop_more, take-append-drop}
+use Rattle.std.proofs.Common.{◌≡◌, ℕ, zero, suc, ◌+◌, ◌*◌, ◌<◌, ◌≤◌, leb, List, [], ◌∷◌, ◌++◌, length, get_or, take, drop, Some, None, sym, refl, ap, ◌∙◌, subst, inl, inr, append_assoc, arith}
+use Rattle.std.proofs.lemmas.List.{append-nil, length-append, take_at, drop_at, drop-drop, take-append-drop}
 use Rattle.std.proofs.lemmas.Bool.{cases_lt, cond-true, cond-false, le-leb, lt-leb}
 use Rattle.source.specs.Rows.{Row}
 use Rattle.views.specs.Layout.{Data, part}
-use Rattle.writing.specs.Padding.{zeros}
 use Rattle.view_cells.proofs.Decode.{length_view}
 use Rattle.view_memory.specs.Layout.{nothing, with_text, with_row, with_rows, buffers_of, buffer_for, offset_for, view_for, views_from}
 use Rattle.view_memory.proofs.Growing.{Ordered, Grows, none_ordered, grows_same, grows_on, text_ordered, text_grows}

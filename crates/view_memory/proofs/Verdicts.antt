@@ -1,12 +1,12 @@
 -- What an accepted row has.
-use Rattle.std.proofs.Common.{◌≡◌, ℕ, ◌+◌, ◌-◌, ◌<◌, ◌≤◌, Bool, true, false, cond, not, ◌&&◌, ltb, leb, List, length, Some, None, sym, refl, ap, ◌∙◌, inl, inr, arith}
-use Rattle.std.proofs.lemmas.Bool.{le-leb, lt-leb, lt-ltb, le-ltb, leb-true, ltb-true, cases_Bool, cases_lt, and_from}
+use Rattle.std.proofs.Common.{◌≡◌, ℕ, ◌+◌, ◌<◌, ◌≤◌, true, false, cond, not, ◌&&◌, ltb, leb, List, length, None, sym, ap, ◌∙◌, inl, inr, arith}
+use Rattle.std.proofs.lemmas.Bool.{le-leb, lt-leb, leb-true, ltb-true, cases_lt, and_from}
 use Rattle.fault.specs.declared.Fault.TheVariants.{RowsFull, TooLong, EndsFull, BytesFull}
 use Rattle.source.specs.Rows.{Row}
-use Rattle.source.specs.Verdicts.{Verdict, unless, then}
+use Rattle.source.specs.Verdicts.{unless}
 use Rattle.source.proofs.Faults.{true_from_unless, then_none}
 use Rattle.views.specs.Layout.{Data}
-use Rattle.view_memory.specs.Layout.{opens, buffer_for, buffers_of}
+use Rattle.view_memory.specs.Layout.{opens, buffers_of}
 use Rattle.view_memory.specs.Rule.{text_verdict, long_verdict, row_verdict, view_rule}
 
 module _ (E B : ℕ) (d : Data) (n : ℕ) where

@@ -1,5 +1,5 @@
 -- What writes make of memory that holds rows: one row more, fewer rows, no rows.
-use Rattle.std.proofs.Common.{◌≡◌, ℕ, zero, suc, ◌+◌, ◌-◌, ◌*◌, ◌/◌, ◌%◌, ◌^◌, ◌<◌, ◌≤◌, min, Bool, true, false, cond, ◌&&◌, eqb, leb, ◌⊎◌, List, [], ◌∷◌, ◌++◌, length, get_or, take, drop, set, Some, None, sym, refl, ap, ◌∙◌, subst, inl, inr, arith}
+use Rattle.std.proofs.Common.{◌≡◌, ℕ, ◌+◌, ◌-◌, ◌*◌, ◌/◌, ◌%◌, ◌^◌, ◌<◌, ◌≤◌, true, eqb, List, [], ◌∷◌, ◌++◌, length, get_or, take, drop, set, Some, None, sym, refl, ap, ◌∙◌, subst, inl, inr, arith}
 use lib.Seq.{paste}
 use Rattle.std.proofs.lemmas.List.Edits.{length-paste}
 use Rattle.std.proofs.lemmas.List.{length-append, length-drop, length_push, length-replicate, length-set, length-take-le, take_all, take-append-drop, take_more, take-take, get_or-take, get_or_past, get_or_push, get_or_append_left, nil_from_length}
@@ -11,12 +11,12 @@ use Rattle.view_cells.specs.Views.{view_of}
 use Rattle.view_cells.proofs.Decode.{view_short, length_view}
 use Rattle.writing.specs.Padding.{zeros, padded}
 use Rattle.writing.specs.Bitmaps.{bitmap_of, marked}
-use Rattle.writing.proofs.Padding.{length_padded, padded_none, padded_push, padded_cut, padded_set, padded_zeros, wiped_all}
+use Rattle.writing.proofs.Padding.{padded_none, padded_push, padded_cut, padded_set, padded_zeros, wiped_all}
 use Rattle.writing.proofs.Bitmaps.{bitmap_push, bitmap_null, bitmap_cut, bitmap_none}
-use Rattle.view_memory.specs.Layout.{nothing, with_text, with_row, with_rows, buffers_of, buffer_for, offset_for, view_for, views_from, views_of, ends_of, data_of}
+use Rattle.view_memory.specs.Layout.{nothing, with_text, with_rows, buffers_of, buffer_for, offset_for, view_for, views_from, views_of, ends_of, data_of}
 use Rattle.view_memory.specs.Rule.{capacity, end_capacity}
 use Rattle.view_memory.specs.Holding.{sound_row, Holds, ends_cut}
-use Rattle.view_memory.proofs.Growing.{Ordered, Grows, start_at, length_ends, length_bytes, placed}
+use Rattle.view_memory.proofs.Growing.{start_at, length_ends, length_bytes, placed}
 use Rattle.view_memory.proofs.Laying.{rows_ordered, row_long, row_short, row_null, length_views, length_view_for, views_append, cut_grows, buffers_push, views_push}
 
 -- a sound row more

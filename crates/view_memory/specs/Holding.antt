@@ -1,9 +1,9 @@
 -- Memory that holds rows, and nothing else.
-use Rattle.std.specs.Prelude.{◌≡◌, ℕ, ◌-◌, ◌≤◌, Bool, true, cond, ◌&&◌, List, [], ◌∷◌, length, take, Some, None, ◌==◌, nat_le, slice_index_or, slice_set}
+use Rattle.std.specs.Prelude.{◌≡◌, ℕ, ◌-◌, ◌≤◌, Bool, true, cond, ◌&&◌, List, length, take, Some, None, ◌==◌, nat_le, slice_index_or, slice_set}
 use Rattle.std.proofs.Math.Seq.{paste}
 use Rattle.source.specs.Rows.{Row}
 use Rattle.text.specs.Steps.{formed}
-use Rattle.views.specs.Layout.{Lists, rows_in}
+use Rattle.views.specs.Layout.{Lists}
 use Rattle.view_memory.specs.Layout.{buffers_of, views_of, ends_of, data_of}
 use Rattle.view_memory.specs.Rule.{capacity, end_capacity}
 use Rattle.writing.specs.Padding.{zeros}

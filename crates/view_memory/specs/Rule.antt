@@ -1,5 +1,5 @@
 -- The rule by which a view output takes rows, from the numbers of what there is memory for.
-use Rattle.std.specs.Prelude.{ℕ, ◌+◌, ◌*◌, ◌/◌, min, Bool, cond, not, ◌&&◌, List, length, Some, None, nat_le, nat_lt}
+use Rattle.std.specs.Prelude.{ℕ, ◌+◌, ◌*◌, ◌/◌, min, cond, not, ◌&&◌, List, length, Some, None, nat_le, nat_lt}
 use Rattle.fault.specs.declared.Fault.TheVariants.{RowsFull, TooLong, EndsFull, BytesFull}
 use Rattle.source.specs.Rows.{Row}
 use Rattle.source.specs.Verdicts.{Verdict, unless, then}

@@ -1,18 +1,16 @@
 -- Rows in memory, from what the operations of memory promise.
-use Rattle.std.proofs.Common.{◌≡◌, ℕ, ◌+◌, ◌<◌, ◌≤◌, List, [], ◌∷◌, ◌++◌, map, length, take, drop, sym, refl, ap, ◌∙◌, subst, arith}
-use Rattle.std.proofs.lemmas.List.{take-append-drop, take-append-le, take_all, drop-append-le, drop_all, map-append, map_push, length_push, length-take-le}
+use Rattle.std.proofs.Common.{◌≡◌, ℕ, ◌≤◌, List, [], ◌∷◌, ◌++◌, map, length, take, drop, sym, refl, ap, ◌∙◌, subst, arith}
+use Rattle.std.proofs.lemmas.List.{take-append-drop, map-append}
 use Rattle.output.specs.declared.Counts.{Counts}
-use Rattle.output.specs.Rows.{Piece, nulls_in, row_of}
+use Rattle.output.specs.Rows.{nulls_in, row_of}
 use Rattle.source.specs.Rows.{Row}
-use Rattle.source.proofs.Numbered.{length_rows_by}
 use Rattle.view_memory.specs.declared.memory.Memory.{Memory}
-use Rattle.view_memory.specs.Holding.{Holds}
-use Rattle.view_memory.specs.Layout.{buffers_of, data_of, ends_of, views_of}
-use Rattle.view_memory.specs.Memories.{Counted, Has, SameSizes, counts_of, longs_in, rows_of, rule_of}
+use Rattle.view_memory.specs.Layout.{buffers_of, ends_of, views_of}
+use Rattle.view_memory.specs.Memories.{Counted, Has, SameSizes, counts_of, rows_of, rule_of}
 use Rattle.view_memory.specs.Rule.{capacity, end_capacity, view_rule}
 use Rattle.view_memory.proofs.Decode.{rows_are}
 use Rattle.view_output.specs.declared.store.Store.{Store}
-use Rattle.view_output.specs.Stores.{Fitting, Sound, Written, all_rows, kept_pieces, kept_rows, image, laid, memory_of, pending_pieces, pending_rows, whole, sizes_of}
+use Rattle.view_output.specs.Stores.{Fitting, Sound, Written, all_rows, kept_pieces, image, laid, memory_of, pending_pieces, whole, sizes_of}
 use Rattle.writing.specs.Bitmaps.{bitmap_of}
 
 -- Pieces and their rows

@@ -1,11 +1,11 @@
 -- The rows in a view output's memory: those kept, then those pending.
 use Rattle.std.specs.Prelude.{◌≡◌, ℕ, ◌≤◌, true, List, [], ◌∷◌, ◌++◌, map, length, take, drop, None, slice_index_or}
-use Rattle.output.specs.Rows.{Piece, Rule}
+use Rattle.output.specs.Rows.{Piece}
 use Rattle.source.specs.Rows.{Row}
 use Rattle.view_memory.specs.declared.memory.Memory.{Memory}
 use Rattle.view_memory.specs.Holding.{sound_row}
 use Rattle.view_memory.specs.Layout.{buffers_of, data_of, ends_of, views_of}
-use Rattle.view_memory.specs.Memories.{Counted, rows_of, rule_of}
+use Rattle.view_memory.specs.Memories.{Counted, rows_of}
 use Rattle.view_memory.specs.Rule.{capacity, end_capacity}
 use Rattle.view_output.specs.declared.store.Store.{Store}
 use Rattle.writing.specs.Bitmaps.{bitmap_of}

@@ -1,4 +1,6 @@
 //! View outputs: rows copied to lent memory as views, in the layout that view columns are read from.
+#![tactic(auto)]
+
 mod store;
 mod storing;
 pub mod view_output;

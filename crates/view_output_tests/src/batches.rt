@@ -53,11 +53,11 @@ fn discarded_rows_leave_nothing_behind(rt: HostRuntime) -> Result<(), Fail> {
     let (views, validity): (&[u8], &[u8]) = (views, validity);
     let (ends, bytes): (&[u64], &[u8]) = (ends, bytes);
     assert!(rt; views.len() == 100 && bytes.len() == 40);
-    assert!(rt; &views[0..16] == b"\x0d\0\0\0abcd\0\0\0\0\0\0\0\0");
-    assert!(rt; &views[16..32] == b"\0\0\0\0\0\0\0\0\0\0\0\0\0\0\0\0");
-    assert!(rt; &views[64..80] == b"\0\0\0\0\0\0\0\0\0\0\0\0\0\0\0\0");
-    assert!(rt; validity == b"\x01\0");
-    assert!(rt; ends == [13, 0, 0]);
-    assert!(rt; &bytes[0..16] == b"abcdefghijklm\0\0\0");
+    assert!(rt; &views[0..16] == b"\x0d\0\0\0abcd\0\0\0\0\0\0\0\0".as_slice());
+    assert!(rt; &views[16..32] == b"\0\0\0\0\0\0\0\0\0\0\0\0\0\0\0\0".as_slice());
+    assert!(rt; &views[64..80] == b"\0\0\0\0\0\0\0\0\0\0\0\0\0\0\0\0".as_slice());
+    assert!(rt; validity == b"\x01\0".as_slice());
+    assert!(rt; ends == [13, 0, 0].as_slice());
+    assert!(rt; &bytes[0..16] == b"abcdefghijklm\0\0\0".as_slice());
     Ok(())
 }

@@ -1,4 +1,6 @@
 //! Tests of the view output on examples.
+#![tactic(auto)]
+
 #[cfg(test)]
 mod batches;
 #[cfg(test)]

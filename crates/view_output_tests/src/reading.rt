@@ -41,7 +41,7 @@ fn rows_are_read_again(rt: HostRuntime) {
     assert!(rt; counts.rows == 4 && counts.nulls == 1 && counts.value_bytes == 27);
     assert!(rt; counts.buffers == 1 && counts.long_views == 2);
     let ends: &[u64] = ends;
-    assert!(rt; ends == [27, 0, 0]);
+    assert!(rt; ends == [27, 0, 0].as_slice());
     let mut column = ViewColumn::empty();
     let lent = Lent {
         views,

@@ -1,3 +1,5 @@
 //! Tests of view columns on examples.
+#![tactic(auto)]
+
 #[cfg(test)]
 mod rows;

@@ -1,8 +1,8 @@
 -- Padded memory: a write at its end, a write over its last number, and a wipe.
-use Rattle.std.proofs.Common.{◌≡◌, ℕ, zero, suc, ◌+◌, ◌-◌, ◌<◌, ◌≤◌, List, [], ◌∷◌, ◌++◌, length, take, drop, set, replicate, sym, refl, ap, ◌∙◌, arith}
+use Rattle.std.proofs.Common.{◌≡◌, ℕ, suc, ◌+◌, ◌-◌, ◌<◌, ◌≤◌, List, [], ◌∷◌, ◌++◌, length, take, drop, set, sym, refl, ap, ◌∙◌, arith}
 use lib.Seq.{paste}
 use Rattle.std.proofs.lemmas.List.Edits.{paste_all}
-use Rattle.std.proofs.lemmas.List.{append-nil, append_assoc, length-append, length-replicate, take_at, drop_at, drop-drop, drop-replicate, drop_all, replicate-append-replicate, take-append-drop, length-take-le, set_split, take-append-le, drop-append-le}
+use Rattle.std.proofs.lemmas.List.{append-nil, append_assoc, length-append, length-replicate, take_at, drop_at, drop-drop, drop-replicate, drop_all, replicate-append-replicate, length-take-le, set_split, take-append-le}
 use Rattle.writing.specs.Padding.{zeros, padded}
 
 pub length_padded : (size : ℕ) (xs : List ℕ) → length xs ≤ size → length (padded size xs) ≡ size

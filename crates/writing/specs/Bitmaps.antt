@@ -1,5 +1,5 @@
 -- The validity bitmap of rows: a bit for each, lowest first, 1 where the row is not null.
-use Rattle.std.specs.Prelude.{ℕ, ◌+◌, ◌*◌, ◌/◌, ◌%◌, ◌^◌, List, map, set, Some, None, bit_or, slice_index, slice_index_or, slice_set}
+use Rattle.std.specs.Prelude.{ℕ, ◌+◌, ◌*◌, ◌/◌, ◌%◌, ◌^◌, List, map, Some, None, bit_or, slice_index, slice_index_or, slice_set}
 use Rattle.std.specs.List.{range_with_len}
 use Rattle.source.specs.Rows.{Row}
 

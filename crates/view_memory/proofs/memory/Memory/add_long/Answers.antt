@@ -1,4 +1,4 @@
-use Rattle.std.proofs.Common.{◌≡◌, ℕ, ◌+◌, ◌*◌, ◌<◌, ◌≤◌, min, List, [], ◌∷◌, ◌++◌, length, set, Some, sym, refl, ap, ◌∙◌, subst, arith, w32, w64, Fits, rules}
+use Rattle.std.proofs.Common.{◌≡◌, ℕ, ◌+◌, ◌*◌, ◌<◌, ◌≤◌, List, [], ◌∷◌, ◌++◌, length, set, Some, sym, refl, ap, ◌∙◌, subst, arith, w32, w64, Fits, rules}
 use Rattle.std.proofs.lemmas.List.{length-set}
 use Rattle.text.proofs.Forms.{formed_from_utf8}
 use Rattle.view_memory.specs.Holding.{Holds}
@@ -19,8 +19,8 @@ below_word n h = search rules
 below_half : (n : ℕ) → n < 4294967296 → Fits w32 n
 below_half n h = search rules
 
-pub offset-bounds-self-buffer : goal.offset-bounds-self-buffer
-offset-bounds-self-buffer c =
+pub offset_bounds-self-buffer : goal.offset_bounds-self-buffer
+offset_bounds-self-buffer c =
     let b = c.place-buffer.ensures.buffer in
     let e = has_end c.requires.holds (length c.args.text.now) c.requires.long c.requires.may in
     let x : c.place-buffer.result.0 < 2147483647 = omega arith in
@@ -32,27 +32,27 @@ bounds-self-buffer c =
     let e = has_end c.requires.holds (length c.args.text.now) c.requires.long c.requires.may in
     omega arith
 
-pub overflow-cast-buffer : goal.overflow-cast-buffer
-overflow-cast-buffer c =
+pub overflow_cast-buffer : goal.overflow_cast-buffer
+overflow_cast-buffer c =
     let b = c.place-buffer.ensures.buffer in
     let e = has_end c.requires.holds (length c.args.text.now) c.requires.long c.requires.may in
     below_half c.place-buffer.result.0 (omega arith)
 
-pub overflow-cast-offset : goal.overflow-cast-offset
-overflow-cast-offset c =
+pub overflow_cast-offset : goal.overflow_cast-offset
+overflow_cast-offset c =
     let rows = rows_of c.args.self.now c.args.held in
     let o = c.place-buffer.ensures.offset in
     let p = (placed (buffers_of rows) (rows_ordered rows) (length c.args.text.now)).near in
     below_half c.place-buffer.result.1 (omega arith)
 
-pub overflow-add-result-2 : goal.overflow-add-result-2
-overflow-add-result-2 c =
+pub overflow_add-result-2 : goal.overflow_add-result-2
+overflow_add-result-2 c =
     let b = c.place-buffer.ensures.buffer in
     let e = has_end c.requires.holds (length c.args.text.now) c.requires.long c.requires.may in
     below_word (c.place-buffer.result.0 + 1) (omega arith)
 
-pub overflow-add-result-3 : goal.overflow-add-result-3
-overflow-add-result-3 c =
+pub overflow_add-result-3 : goal.overflow_add-result-3
+overflow_add-result-3 c =
     let l = longs_most (rows_of c.args.self.now c.args.held) in
     let n = c.requires.counted.0 in
     let k = c.requires.counted.4 in
@@ -66,8 +66,8 @@ returns c =
     let held = c.args.held in
     let rows = rows_of m held in
     let t = c.args.text.now in
-    let s = c.as-bytes-bytes.result.now in
-    let e = c.as-bytes-bytes.ensures.value in
+    let s = c.as_bytes-bytes.result.now in
+    let e = c.as_bytes-bytes.ensures.value in
     let l : length s ≡ length t = ap length e in
     let b = c.place-buffer.ensures.buffer in
     let o = c.place-buffer.ensures.offset in
@@ -77,11 +77,11 @@ returns c =
     let u = c.requires.counted.2 in
     let x = has_end c.requires.holds (length t) c.requires.long c.requires.may in
     let h =
-    push_long c.requires.holds held.rows c.requires.counted.0 c.requires.room s (formed_from_utf8 s c.as-bytes-bytes.ensures.utf8) _ _ c.mark.ensures (omega arith) (omega arith)
+    push_long c.requires.holds held.rows c.requires.counted.0 c.requires.room s (formed_from_utf8 s c.as_bytes-bytes.ensures.utf8) _ _ c.mark.ensures (omega arith) (omega arith)
     c.place-buffer.result.0 c.place-buffer.result.1 held.value_bytes (held.value_bytes + length s)
-    (b ∙ ap (buffer_for (buffers_of rows)) (sym l)) (o ∙ ap (offset_for (buffers_of rows)) (sym l)) u refl (omega arith) (omega arith) _ _ c.put-view.ensures refl c.put-text.ensures in
+    (b ∙ ap (buffer_for (buffers_of rows)) (sym l)) (o ∙ ap (offset_for (buffers_of rows)) (sym l)) u refl (omega arith) (omega arith) _ _ c.put_view.ensures refl c.put_text.ensures in
     record {
       sizes = (omega arith, omega arith, length-set m.ends.now _ _, omega arith);
-      holds = subst (λ (y : List ℕ). Holds c.put-view.new.views c.mark.new.bitmap (set m.ends.now c.place-buffer.result.0 (held.value_bytes + length s)) c.put-text.new.bytes (rows ++ Some y ∷ [])) e h;
+      holds = subst (λ (y : List ℕ). Holds c.put_view.new.views c.mark.new.bitmap (set m.ends.now c.place-buffer.result.0 (held.value_bytes + length s)) c.put_text.new.bytes (rows ++ Some y ∷ [])) e h;
       counted = count_long held rows c.requires.counted t c.requires.long c.place-buffer.result.0 _ b (omega arith);
     }

@@ -1,4 +1,4 @@
-use Rattle.std.proofs.Common.{◌≡◌, ℕ, ◌-◌, length, get_or, arith}
+use Rattle.std.proofs.Common.{◌-◌, get_or, arith}
 use Rattle.view_memory.specs.Layout.{buffers_of}
 use Rattle.view_memory.specs.Memories.{rows_of}
 use Rattle.view_memory.proofs.Laying.{rows_ordered}
@@ -10,8 +10,8 @@ returns-then-held-le1 c =
     let rows = rows_of c.args.self.now c.args.held in
     filled_first (buffers_of rows) (rows_ordered rows) c.args.held.buffers c.args.held.value_bytes c.requires.counted.3 c.requires.counted.2 (omega arith)
 
-pub overflow-sub-result-2 : goal.overflow-sub-result-2
-overflow-sub-result-2 c =
+pub overflow_sub-result-2 : goal.overflow_sub-result-2
+overflow_sub-result-2 c =
     let rows = rows_of c.args.self.now c.args.held in
     let k = c.requires.counted.3 in
     let e = end_in_memory c.requires.holds (c.args.held.buffers - 2) (omega arith) in

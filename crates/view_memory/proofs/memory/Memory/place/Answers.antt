@@ -1,4 +1,4 @@
-use Rattle.std.proofs.Common.{◌≡◌, refl, arith}
+use Rattle.std.proofs.Common.{refl}
 use Rattle.view_memory.specs.Layout.{buffers_of}
 use Rattle.view_memory.specs.Memories.{rows_of}
 use Rattle.view_memory.proofs.Laying.{rows_ordered}
@@ -11,8 +11,8 @@ returns-then-opens c =
     let p = place_new (buffers_of rows) (rows_ordered rows) c.args.held.buffers c.args.held.value_bytes c.requires.counted.3 c.requires.counted.2 c.args.len c.if-opens.ensures in
     record { buffer = p.0; offset = p.1 }
 
-pub overflow-sub-result : goal.overflow-sub-result
-overflow-sub-result c =
+pub overflow_sub-result : goal.overflow_sub-result
+overflow_sub-result c =
     let rows = rows_of c.args.self.now c.args.held in
     (place_last (buffers_of rows) (rows_ordered rows) c.args.held.buffers c.args.held.value_bytes c.requires.counted.3 c.requires.counted.2 c.args.len _ c.if-opens.ensures refl).0
 

@@ -1,5 +1,4 @@
-use Rattle.std.proofs.Common.{◌≡◌, [], map, take, drop, refl, ap, ◌∙◌, arith}
-use Rattle.std.proofs.lemmas.List.{take_all, drop_all}
+use Rattle.std.proofs.Common.{[], map, take, drop, ap, ◌∙◌, arith}
 use Rattle.view_output.specs.Stores.{image, whole}
 use Rattle.view_output.proofs.Stored.{image_from, none_counted, rows_again, same_rule, same_sizes, sound_from}
 use Rattle.view_output.proofs.store.Store.new.Goals as goal

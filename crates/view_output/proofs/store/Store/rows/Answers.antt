@@ -1,4 +1,4 @@
-use Rattle.std.proofs.Common.{◌≡◌, sym, ◌∙◌}
+use Rattle.std.proofs.Common.{sym, ◌∙◌}
 use Rattle.std.proofs.lemmas.List.{length-map}
 use Rattle.view_output.specs.Stores.{kept_rows, whole}
 use Rattle.view_output.proofs.store.Store.rows.Goals as goal

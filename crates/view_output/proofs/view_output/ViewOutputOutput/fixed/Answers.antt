@@ -1,4 +1,4 @@
-use Rattle.std.proofs.Common.{◌≡◌, List, ◌++◌, map, sym, ap, ◌∙◌}
+use Rattle.std.proofs.Common.{◌++◌, map, sym, ap, ◌∙◌}
 use Rattle.output.specs.Rows.{row_of}
 use Rattle.view_output.specs.Stores.{image, kept_pieces, pending_pieces, sizes_of}
 use Rattle.view_output.proofs.Stored.{memory_held}

@@ -2,7 +2,7 @@ use Rattle.std.proofs.Common.{◌≡◌, ℕ, ◌<◌, ◌≤◌, Bool, true, fa
 use Rattle.bitmap.specs.Validity.{valid}
 use Rattle.std.proofs.lemmas.Bool.{and_from, and_left, and_right, lt-ltb, le-ltb}
 use Rattle.source.proofs.Numbered.{at_rows_by, past_rows_by}
-use Rattle.views.specs.Layout.{Lists, LiesIn, buffer, fits, offset, place_at, places_in, size, text, view, word}
+use Rattle.views.specs.Layout.{Lists, LiesIn, buffer, fits, offset, place_at, places_in, size, text, view}
 use Rattle.views.specs.Reading.{lists}
 use Rattle.views.proofs.Opened.{has_enough, has_ends, row_fits}
 use Rattle.views.proofs.Views.{room_from_enough, lies_in}
