@@ -1,5 +1,7 @@
 //! Outputs: what rows are written to. The trait says what an output means; calls are generic over it.
 //! An output holds kept rows and pending rows, and a rule that never changes gives its verdict on a coming row.
+#![tactic(auto)]
+
 ghost use Rattle.std.specs.Prelude.{◌≡◌, ℕ, List, [], ◌++◌, map, length, None, Option};
 ghost use Rattle.output.specs.declared.Counts.{Counts};
 ghost use Rattle.output.specs.Pieces.{piece_of};
