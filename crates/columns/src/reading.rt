@@ -15,7 +15,7 @@ use text::well_formed;
 /// An offset as a place; nothing where it is negative.
 fn place<W: Width>(offsets: &[W], i: usize) -> Option<usize>
     requires { i < length offsets.now }
-    ensures { result ≡ place_of (slice_index_or (map number offsets.now) i (pos 0)) }
+    ensures { result ≡ place_of (slice_index_or (map W.number offsets.now) i (pos 0)) }
 {
     offsets[i].place()
 }
@@ -23,7 +23,7 @@ fn place<W: Width>(offsets: &[W], i: usize) -> Option<usize>
 impl<'a, W: Width> Lent<'a, W> {
     /// Whether the lists are long enough for the rows.
     fn is_enough(&self, rows: usize) -> bool
-        ensures { result ≡ enough rows (lists number self.now) }
+        ensures { result ≡ enough rows (lists W.number self.now) }
     {
         if rows > 0 && rows >= self.offsets.len() {
             return false;
@@ -34,7 +34,7 @@ impl<'a, W: Width> Lent<'a, W> {
     /// The value bytes of a row; nothing where its offsets are not places in order within them.
     fn part(&self, row: usize) -> Option<&'a [u8]>
         requires { row + 1 < length self.now.offsets.now }
-        ensures { option_map (λ x. x.now) result ≡ part (lists number self.now) row }
+        ensures { option_map (λ x. x.now) result ≡ part (lists W.number self.now) row }
     {
         let start = place(self.offsets, row)?;
         let end = place(self.offsets, row + 1)?;
@@ -47,7 +47,7 @@ impl<'a, W: Width> Lent<'a, W> {
     /// The fault of a row.
     fn row_fault(&self, row: usize) -> Option<Fault>
         requires { row + 1 < length self.now.offsets.now }
-        ensures { result ≡ row_fault (lists number self.now) row }
+        ensures { result ≡ row_fault (lists W.number self.now) row }
     {
         let Some(bytes) = self.part(row) else {
             return Some(Fault::Offset { row });
@@ -63,8 +63,8 @@ impl<'a, W: Width> Lent<'a, W> {
 
     /// The fault of the lowest row that has one.
     fn rows_fault(&self, rows: usize) -> Option<Fault>
-        requires { enough rows (lists number self.now) ≡ true }
-        ensures { result ≡ first_fault (row_fault (lists number self.now)) rows }
+        requires { enough rows (lists W.number self.now) ≡ true }
+        ensures { result ≡ first_fault (row_fault (lists W.number self.now)) rows }
     {
         for row in 0..rows {
             if let Some(fault) = self.row_fault(row) {
@@ -76,8 +76,8 @@ impl<'a, W: Width> Lent<'a, W> {
 
     /// The fault that opening the rows meets first.
     pub(crate) fn fault(&self, rows: usize) -> Option<Fault>
-        ensures answer { result ≡ verdict rows (lists number self.now) }
-        ensures meaning { Says rows (lists number self.now) result }
+        ensures answer { result ≡ verdict rows (lists W.number self.now) }
+        ensures meaning { Says rows (lists W.number self.now) result }
     {
         if !self.is_enough(rows) {
             return Some(Fault::ShortList);
@@ -87,8 +87,8 @@ impl<'a, W: Width> Lent<'a, W> {
 
     /// The text of a row, of rows that may be opened.
     pub(crate) fn text(&self, rows: usize, row: usize) -> Option<&'a str>
-        requires { accepts (verdict rows (lists number self.now)) ≡ true }
-        ensures { option_map (λ x. x.now) result ≡ slice_index_or (rows_in rows (lists number self.now)) row None }
+        requires { accepts (verdict rows (lists W.number self.now)) ≡ true }
+        ensures { option_map (λ x. x.now) result ≡ slice_index_or (rows_in rows (lists W.number self.now)) row None }
     {
         if row >= rows {
             return None;

@@ -1,4 +1,6 @@
 //! Tests of the columns, windows and sources on examples.
+#![tactic(auto)]
+
 #[cfg(test)]
 mod offsets;
 #[cfg(test)]

@@ -8,9 +8,9 @@ use Rattle.bitmap.specs.Validity.{bit}
 use Rattle.source.specs.Rows.{Row}
 use Rattle.source.specs.Verdicts.{Verdict, then, unless, first_fault, malformed}
 use Rattle.source.proofs.Numbered.{length_rows_by, at_rows_by}
-use Rattle.columns.specs.Offsets.{Lists, place, place_of, part, row_at, rows_in, enough, row_fault, verdict}
+use Rattle.columns.specs.Offsets.{Lists, place_of, part, row_at, rows_in, enough, row_fault, verdict}
 use Rattle.columns.proofs.Cutting.{in_order}
-use Rattle.offset_layout.specs.Layout.{zeros, bytes, bit_of, used, offset, values_of, offsets_of, bitmap_of, row_formed, column, Holds}
+use Rattle.offset_layout.specs.Layout.{zeros, bytes, bit_of, used, values_of, offsets_of, bitmap_of, row_formed, column, Holds}
 use Rattle.offset_layout.proofs.Bitmap.{bit_at}
 use Rattle.offset_layout.proofs.Forms.{formed_at}
 use Rattle.offset_layout.proofs.Offsets.{offsets_at, offset_low}

@@ -1,5 +1,7 @@
 //! Outputs that write rows of text in Arrow's variable-size layout, over lent memory: offsets, value bytes, and a validity bitmap.
 //! A finished output is read as an offset column.
+#![tactic(auto)]
+
 mod cells;
 mod extent;
 pub mod memory;

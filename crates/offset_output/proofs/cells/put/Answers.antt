@@ -4,4 +4,4 @@ use Rattle.offset_output.proofs.cells.put.Goals as goal
 
 pub returns : goal.returns
 returns c =
-    put_mid-paste _ _ c.args.values.now c.copy-from-slice.new.self c.args.text.now (length c.args.text.now) c.copy-from-slice.ensures.after (omega arith) refl
+    put_mid-paste _ _ c.args.values.now c.copy_from_slice.new.self c.args.text.now (length c.args.text.now) c.copy_from_slice.ensures.after (omega arith) refl

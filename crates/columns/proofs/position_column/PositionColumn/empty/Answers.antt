@@ -5,7 +5,7 @@ use Rattle.columns.proofs.position_column.PositionColumn.empty.Goals as goal
 
 pub invariant_of-result : goal.invariant_of-result
 unfolding enough_numbers
-invariant_of-result c = (refl, tt)
+invariant_of-result c = record { sound = refl }
 
 pub returns : goal.returns
 unfolding rows_by

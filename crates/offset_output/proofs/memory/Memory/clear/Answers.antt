@@ -10,7 +10,7 @@ returns g c =
     record {
       sizes = (omega arith, omega arith, omega arith);
       has = record {
-        holds = simp (c.wipe-offsets.ensures, c.wipe.ensures, c.wipe-2.ensures) (no_rows (map g.W.Width.number m.offsets.now) m.values.now m.validity.now (length m.offsets.now) (length m.values.now) (length m.validity.now) l refl refl);
+        holds = simp (c.wipe_offsets.ensures, c.wipe.ensures, c.wipe-2.ensures) (no_rows (map g.W.Width.number m.offsets.now) m.values.now m.validity.now (length m.offsets.now) (length m.values.now) (length m.validity.now) l refl refl);
         nulls = refl;
       };
     }

@@ -6,8 +6,8 @@ use Rattle.offset_output.proofs.Nulls.{null_more, nulls_below}
 use Rattle.offset_output.specs.Memories.{rows_of}
 use Rattle.offset_output.proofs.memory.Memory.put_null.Goals as goal
 
-pub overflow-add-result-2 : goal.overflow-add-result-2
-overflow-add-result-2 g c =
+pub overflow_add-result-2 : goal.overflow_add-result-2
+overflow_add-result-2 g c =
     let m = c.args.self.now in
     let rows = rows_of g.W.Width.number m c.args.held.rows in
     let b = nulls_below rows in

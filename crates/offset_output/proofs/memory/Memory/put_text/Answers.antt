@@ -16,13 +16,13 @@ returns g c =
     let l = length-map m.offsets.now num in
     let s = length-set m.offsets.now (n + 1) c.args.end in
     let r : n < capacity (length (map num m.offsets.now)) (length m.validity.now) = omega arith in
-    let f = formed_from_utf8 _ c.as-bytes-bytes.ensures.utf8 in
+    let f = formed_from_utf8 _ c.as_bytes-bytes.ensures.utf8 in
     let o = map-set num m.offsets.now (n + 1) c.args.end ∙ ap (set (map num m.offsets.now) (n + 1)) c.requires.end in
     record {
       sizes = (s, omega arith, omega arith);
       rows = refl;
       has = record {
-        holds = push_text_to c.requires.has.holds r t _ c.as-bytes-bytes.ensures.value f c.requires.fits _ _ _ o c.put.ensures c.mark.ensures;
+        holds = push_text_to c.requires.has.holds r t _ c.as_bytes-bytes.ensures.value f c.requires.fits _ _ _ o c.put.ensures c.mark.ensures;
         nulls = text_more (rows_of num m n) t ∙ c.requires.has.nulls;
       };
     }

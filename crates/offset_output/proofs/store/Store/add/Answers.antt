@@ -16,13 +16,13 @@ add-requires g c =
     let s = c.args.self.now in
     record { has = has g.W.Width.number s c.requires.sound c.requires.ordered c.requires.counted }
 
-pub returns-in-err-self : goal.returns-in-err-self
-returns-in-err-self g c =
+pub returns-in_err-self : goal.returns-in_err-self
+returns-in_err-self g c =
     let num = g.W.Width.number in
     let s = c.args.self.now in
     let row = option_map (λ x. x.now) c.args.text in
-    let e = c.in-err-self.ensures.added in
-    let p = err_from_is_err_and c.from-residual.result c.from-residual.ensures.1 in
+    let e = c.in_err-self.ensures.added in
+    let p = err_from_is_err_and c.from_residual.result c.from_residual.ensures.1 in
     rw (p.1, p.2) (record {
       sound = simp e.1 c.requires.sound;
       ordered = simp e.1 c.requires.ordered;
@@ -41,13 +41,13 @@ returns g c =
     let k = s.kept.rows in
     let row = option_map (λ x. x.now) c.args.text in
     let rows = all_rows num s in
-    let a = c.in-ok-self.ensures.added in
-    let z = c.in-ok-self.ensures.sizes in
+    let a = c.in_ok-self.ensures.added in
+    let z = c.in_ok-self.ensures.sizes in
     let h = a.has in
     let l = length_all num s in
     let le = c.requires.ordered.0 in
     let m = a.one_more in
-    let t : Store g.row.W.Denot = record { memory = c.add.new.self; kept = s.kept; held = c.in-ok-self.field-0 } in
+    let t : Store g.row.W.Denot = record { memory = c.add.new.self; kept = s.kept; held = c.in_ok-self.field-0 } in
     let same : take k (rows ++ row ∷ []) ≡ take k rows = take-append-le k rows (row ∷ []) (omega arith) in
     record {
       sound = sound num t (rows ++ row ∷ []) h;
