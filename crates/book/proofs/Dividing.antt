@@ -1,11 +1,11 @@
 -- Feeding a call's rows in one go, and in consecutive windows.
-use Rattle.std.proofs.Common.{◌≡◌, ℕ, ◌+◌, ◌<◌, ◌≤◌, Bool, true, false, cond, List, [], ◌∷◌, ◌++◌, map, length, is_some, is_ok, Some, None, Ok, Err, Option, Result, sym, refl, ap, ◌∙◌, arith, length-append}
+use Rattle.std.proofs.Common.{◌≡◌, ℕ, ◌+◌, Bool, true, false, cond, List, [], ◌∷◌, ◌++◌, length, is_some, is_ok, Some, None, Ok, Err, Option, Result, sym, refl, ap, ◌∙◌, arith, length-append}
 use Rattle.std.specs.Result.{result_ok, result_unwrap_or, result_map_both}
 use Rattle.fault.specs.declared.Fault.{Fault}
 use Rattle.output.specs.Rows.{RuleOver}
 use Rattle.source.specs.Verdicts.{Verdict}
 use Rattle.book.specs.Requests.{Asked, OfferOver}
-use Rattle.book.specs.Book.{Answer, guarded, at_row, fed, met, answer, after, answers, after_all}
+use Rattle.book.specs.Book.{guarded, at_row, fed, met, answer, after, answers, after_all}
 use Rattle.book.specs.Division.{all_taken, sum_told, Agreed}
 
 abbrev next : {X Y : Type 0} → Option X → (X → Option Y) → Option Y

@@ -1,6 +1,5 @@
 -- One row more of a call, and its end.
-use Rattle.std.proofs.Common.{◌≡◌, ℕ, ◌+◌, ◌<◌, ◌≤◌, List, [], ◌∷◌, ◌++◌, map, length, drop, Some, None, Ok, Err, Result, sym, refl, ap, ◌∙◌, zero-add}
-use Rattle.std.specs.List.{range_with_len}
+use Rattle.std.proofs.Common.{◌≡◌, ℕ, ◌+◌, ◌<◌, ◌≤◌, List, [], ◌∷◌, ◌++◌, length, drop, Some, None, Ok, Err, ap, ◌∙◌, zero-add}
 use Rattle.std.proofs.lemmas.List.{drop_more, drop_all}
 use Rattle.std.proofs.lemmas.List.FromFn.{length-map-range_with_len, get_or-map-range_with_len}
 use Rattle.fault.specs.Faults.{placed_at}
@@ -8,7 +7,7 @@ use Rattle.fault.specs.declared.Fault.{Fault}
 use Rattle.output.specs.Rows.{RuleOver}
 use Rattle.source.specs.Rows.{rows_by}
 use Rattle.source.specs.Verdicts.{Verdict}
-use Rattle.book.specs.Requests.{Asked, OfferOver}
+use Rattle.book.specs.Requests.{OfferOver}
 use Rattle.book.specs.Book.{guarded, at_row, fed, met, answer, after}
 
 pub length_rows_by : {X : Type 0} (f : ℕ → X) (n : ℕ) → length (rows_by f n) ≡ n

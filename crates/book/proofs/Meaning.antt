@@ -1,5 +1,5 @@
 -- The book does what the words say.
-use Rattle.std.proofs.Common.{◌≡◌, ℕ, zero, suc, ◌+◌, ◌<◌, List, [], ◌∷◌, ◌++◌, length, get_or, take, Some, None, Ok, Err, Option, Result, sym, refl, ap, ◌∙◌, append_assoc, append-nil, add-zero, zero-add, arith}
+use Rattle.std.proofs.Common.{◌≡◌, ℕ, zero, suc, ◌+◌, ◌<◌, List, [], ◌∷◌, ◌++◌, length, get_or, take, Some, None, Ok, Err, Result, sym, refl, ap, ◌∙◌, append_assoc, append-nil, add-zero, zero-add, arith}
 use Rattle.std.specs.Result.{result_unwrap_or, result_map_both}
 use Rattle.fault.specs.Faults.{placed_at}
 use Rattle.fault.specs.declared.Fault.{Fault}
@@ -7,7 +7,7 @@ use Rattle.output.specs.Rows.{Rule}
 use Rattle.source.specs.Rows.{Row}
 use Rattle.source.specs.Verdicts.{Verdict}
 use Rattle.book.specs.Requests.{Asked, OfferOver}
-use Rattle.book.specs.Book.{Answer, guarded, at_row, fed, met, answer, after, answers, after_all}
+use Rattle.book.specs.Book.{Answer, guarded, at_row, fed, answer, after, answers, after_all}
 use Rattle.book.specs.Runs.{texts, judged, fault_at, Clear, Answered, Booked, Runs}
 use Rattle.book.specs.Runs.Answered.{early, refused, accepted}
 use Rattle.book.specs.Runs.Runs.{ended, went}

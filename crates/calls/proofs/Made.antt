@@ -1,5 +1,5 @@
 -- A call that was made: refused before its first row, refused at a row, or accepted.
-use Rattle.std.proofs.Common.{◌≡◌, List, [], ◌∷◌, ◌++◌, map, Some, None, Ok, Err, Result, sym, ap, ◌∙◌, append-nil}
+use Rattle.std.proofs.Common.{◌≡◌, List, [], ◌++◌, map, Some, None, Ok, Err, Result, sym, ap, ◌∙◌, append-nil}
 use Rattle.book.proofs.Feeding.{length_rows_by, met_early, met_err, met_ok}
 use Rattle.book.proofs.Meaning.{booked_as}
 use Rattle.book.specs.Book.{Answer, after, answer, fed}

@@ -1,4 +1,6 @@
 //! Calls: what adds rows to an output. The trait says what a call means; one generic text makes every call.
+#![tactic(auto)]
+
 ghost use Rattle.std.specs.Prelude.{◌≡◌};
 ghost use Rattle.book.specs.Requests.{Request};
 ghost use Rattle.calls.specs.Offers.{Drawn, offered};

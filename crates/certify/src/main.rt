@@ -1,4 +1,6 @@
 //! certify: cuts and judges the bench lines of an upload.
+#![tactic(auto)]
+
 use anyhow::anyhow;
 use certificates::kinds::Kind;
 use certificates::reading::{condition, line_kind};

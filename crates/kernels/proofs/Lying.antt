@@ -1,8 +1,7 @@
 -- What is cut from a row is a part of it, at its place.
-use Rattle.std.proofs.Common.{◌≡◌, ℕ, zero, suc, ◌+◌, ◌-◌, ◌≤◌, Bool, true, false, cond, eqb, List, [], ◌∷◌, length, take, drop, ℤ, pos, negsuc, Some, None, Ok, Err, Option, unwrap_or, sym, refl, ap, ◌∙◌, arith}
+use Rattle.std.proofs.Common.{◌≡◌, ℕ, zero, suc, ◌+◌, ◌-◌, Bool, true, false, cond, eqb, List, [], ◌∷◌, length, take, drop, ℤ, pos, negsuc, Some, None, Ok, Option, unwrap_or, sym, refl, ap, arith}
 use Rattle.std.proofs.lemmas.List.{take_all}
-use Rattle.std.specs.List.{between, slice_get}
-use Rattle.fault.specs.declared.Fault.TheVariants.{ZeroPosition}
+use Rattle.std.specs.List.{slice_get}
 use Rattle.index.specs.Index.{after_place, before_place, beside, index_at}
 use Rattle.split.specs.Fields.{Part, cut_down, cut_up, field_at, left_fields, missing, right_fields}
 use Rattle.split.specs.Occurrences.{occurrences, occurrences_back}

@@ -1,11 +1,11 @@
 -- Parts of a call's windows.
-use Rattle.std.proofs.Common.{◌≡◌, ℕ, ◌+◌, ◌^◌, ◌<◌, ◌≤◌, Bool, true, false, ◌&&◌, eqb, leb, List, length, ℤ, Some, None, Option, sym, refl, ap, ◌∙◌, arith, ltb-true, eq-eqb, eqb-true, le-leb, leb-true}
+use Rattle.std.proofs.Common.{◌≡◌, ℕ, ◌+◌, ◌^◌, ◌<◌, ◌≤◌, Bool, true, false, ◌&&◌, List, length, ℤ, None, Option, refl, arith, ltb-true, eq-eqb, le-leb, leb-true}
 use Rattle.fault.specs.declared.Fault.{Fault}
-use Rattle.fault.specs.declared.Fault.TheVariants.{OperandRows, Window}
+use Rattle.fault.specs.declared.Fault.TheVariants.{Window}
 use Rattle.source.specs.Rows.{Row}
 use Rattle.source.specs.Verdicts.{Verdict, then, unless}
-use Rattle.kernels.specs.Cuts.{Cut, cut_row, each_start}
-use Rattle.kernels.specs.Spans.{ends, inside, row_in, shift}
+use Rattle.kernels.specs.Cuts.{each_start}
+use Rattle.kernels.specs.Spans.{ends, inside, shift}
 
 -- where a part begins
 pub shift_is : (first rows at : ℕ) → ends first rows ≡ true → at ≤ rows → shift first at ≡ first + at

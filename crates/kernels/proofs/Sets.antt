@@ -1,11 +1,11 @@
 -- The sets of a trim, cut alongside its rows.
-use Rattle.std.proofs.Common.{◌≡◌, ℕ, zero, suc, ◌+◌, ◌<◌, ◌≤◌, Bool, true, false, cond, ◌&&◌, ◌||◌, eqb, List, length, get_or, Some, None, sym, refl, ap, ◌∙◌, add-zero, add_assoc, arith, eq-eqb, eqb-true}
+use Rattle.std.proofs.Common.{◌≡◌, ℕ, zero, suc, ◌+◌, ◌<◌, ◌≤◌, Bool, true, false, cond, ◌&&◌, ◌||◌, eqb, List, length, get_or, None, sym, refl, ap, ◌∙◌, add-zero, add_assoc, arith, eq-eqb, eqb-true}
 use borrow.Author.Tests.{ne_false}
 use Rattle.fault.specs.declared.Fault.TheVariants.{OperandRows, Window}
 use Rattle.source.specs.Rows.{Row}
-use Rattle.source.specs.Verdicts.{then, unless}
+use Rattle.source.specs.Verdicts.{unless}
 use Rattle.kernels.specs.Shifts.{shifted}
-use Rattle.kernels.specs.Spans.{ends, inside, row_in, shift}
+use Rattle.kernels.specs.Spans.{ends, inside, shift}
 use Rattle.kernels.specs.Trims.{set_at, sets_cuttable, sets_fault, sets_part}
 use Rattle.kernels.specs.declared.characters.Characters.{Characters}
 use Rattle.kernels.specs.declared.characters.Characters.TheVariants.{Omitted, Single, Each}

@@ -1,5 +1,5 @@
 -- What split and index offer for each row, and the faults before the first row.
-use Rattle.std.specs.Prelude.{ℕ, zero, suc, ◌+◌, cond, ◌&&◌, List, [], ℤ, pos, negsuc, Some, None, Ok, Option, Result, ◌==◌}
+use Rattle.std.specs.Prelude.{ℕ, zero, suc, ◌+◌, cond, ◌&&◌, List, ℤ, pos, negsuc, Some, None, Ok, Option, Result, ◌==◌}
 use Rattle.std.specs.Result.{result_map_both}
 use Rattle.book.specs.Requests.{Offer, Request}
 use Rattle.fault.specs.declared.Fault.{Fault}

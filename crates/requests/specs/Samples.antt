@@ -4,7 +4,7 @@ use Rattle.fault.specs.declared.Fault.{Fault}
 use Rattle.split.specs.Fields.{Part}
 use Rattle.requests.specs.Answers.{answer_to}
 use Rattle.requests.specs.declared.Operation.{Operation}
-use Rattle.requests.specs.declared.Operation.TheVariants.{Split, Index, Left, Right, Both}
+use Rattle.requests.specs.declared.Operation.TheVariants.{Split, Index, Left, Both}
 
 pub record Sample : Type 0 where
   pub operation : Operation

@@ -1,4 +1,6 @@
 //! A request for one row, of any kind, and its answer: what the vectors are replayed through.
+#![tactic(auto)]
+
 ghost use Rattle.std.specs.Prelude.{◌≡◌};
 ghost use Rattle.split.specs.Fields.{answered};
 ghost use Rattle.requests.specs.Answers.{answer_to};

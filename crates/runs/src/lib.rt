@@ -1,4 +1,6 @@
 //! Lists of calls upon one output, and a call cut into windows.
+#![tactic(auto)]
+
 ghost use Rattle.std.specs.Prelude.{◌≡◌, ℕ, Bool, true, List, length};
 ghost use Rattle.book.specs.Division.{Divides};
 ghost use Rattle.book.specs.Requests.{Request};

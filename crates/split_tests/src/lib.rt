@@ -1,5 +1,7 @@
 //! Examples of searchers and of `split_part`: rows, delimiters and positions, with the field and its place.
 //! They stand in a crate of their own, since a crate with tests is proved twice.
+#![tactic(auto)]
+
 use fault::Layer;
 use search::Searcher;
 use search::finder::Finder;

@@ -1,4 +1,6 @@
 //! vectors: replays requests and their known answers, read from standard input.
+#![tactic(auto)]
+
 use certificates::lines::Lines;
 use hex::hex;
 use requests::{Operation, answer};

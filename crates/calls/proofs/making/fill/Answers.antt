@@ -1,8 +1,7 @@
-use Rattle.std.proofs.Common.{◌≡◌, ◌<◌, List, [], ◌∷◌, ◌++◌, map, Some, None, Ok, Err, sym, ap, ◌∙◌, append_assoc, arith}
+use Rattle.std.proofs.Common.{◌≡◌, ◌<◌, [], ◌∷◌, ◌++◌, map, Some, None, Err, sym, ap, ◌∙◌, append_assoc, arith}
 use Rattle.std.proofs.lemmas.Result.{err_from_is_err_and}
 use Rattle.book.proofs.Feeding.{fed_end}
-use Rattle.book.specs.Book.{fed}
-use Rattle.book.specs.Requests.{asked_rows, each_offer}
+use Rattle.book.specs.Requests.{each_offer}
 use Rattle.output.specs.Pieces.{piece_of}
 use Rattle.output.specs.Rows.{on_rows, row_of}
 use Rattle.calls.specs.Offers.{ended}

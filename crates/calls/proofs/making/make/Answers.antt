@@ -1,5 +1,4 @@
-use Rattle.std.proofs.Common.{◌≡◌, ℕ, Bool, true, false, List, [], ◌++◌, map, Some, None, Ok, Err, sym, refl, ap, ◌∙◌, arith}
-use Rattle.book.specs.Requests.{Over}
+use Rattle.std.proofs.Common.{◌≡◌, ℕ, Bool, true, false, [], ◌++◌, map, Some, None, Ok, Err, sym, refl, ap, ◌∙◌, arith}
 use Rattle.fault.specs.Faults.{placed_at}
 use Rattle.output.specs.Rows.{row_of}
 use Rattle.calls.proofs.Made.{accepted_answer, accepted_booked, accepted_kept, early_answer, early_booked, early_kept, pieces_found, refused_answer, refused_booked, refused_kept, rows_found}

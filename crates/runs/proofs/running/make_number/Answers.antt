@@ -1,8 +1,7 @@
-use Rattle.std.proofs.Common.{◌≡◌, map, sym, ap, ◌∙◌}
+use Rattle.std.proofs.Common.{sym, ap, ◌∙◌}
 use Rattle.book.specs.Book.{after, answer}
-use Rattle.book.specs.Requests.{Over, asked_by, asked_rows, nothing}
-use Rattle.book.specs.Runs.{Booked}
-use Rattle.output.specs.Rows.{on_rows, row_of}
+use Rattle.book.specs.Requests.{asked_by}
+use Rattle.output.specs.Rows.{on_rows}
 use Rattle.runs.proofs.Calls.{call_is, call_there}
 use Rattle.runs.proofs.running.make_number.Goals as goal
 

@@ -1,8 +1,8 @@
-use Rattle.std.proofs.Common.{◌≡◌, ℕ, ◌+◌, ◌<◌, ◌≤◌, true, cond, [], ◌∷◌, ◌++◌, map, length, get_or, is_ok, vec_items, vec_len, vec_capacity, sym, ap, ◌∙◌, append-nil, arith}
+use Rattle.std.proofs.Common.{◌≡◌, ◌+◌, ◌<◌, ◌≤◌, true, cond, [], ◌∷◌, ◌++◌, map, length, get_or, is_ok, vec_items, vec_len, vec_capacity, sym, ap, ◌∙◌, append-nil, arith}
 use Rattle.book.proofs.Listing.{answers_end, answers_step, book_end, book_step}
 use Rattle.book.proofs.Meaning.{runs_as}
 use Rattle.book.specs.Book.{after, after_all, answer, answers}
-use Rattle.book.specs.Requests.{AllOver, Over, asked_by, asked_rows, nothing}
+use Rattle.book.specs.Requests.{AllOver, asked_by, asked_rows, nothing}
 use Rattle.output.specs.Rows.{on_rows, row_of}
 use Rattle.runs.proofs.Calls.{left_calls, over_at}
 use Rattle.runs.proofs.running.run.Goals as goal

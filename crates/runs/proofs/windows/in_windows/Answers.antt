@@ -1,8 +1,6 @@
-use Rattle.std.proofs.Common.{◌≡◌, ℕ, Bool, true, ◌&&◌, eqb, List, [], ◌∷◌, map, length, sym, refl, ap, ◌∙◌, eq-eqb, eqb-true}
+use Rattle.std.proofs.Common.{◌≡◌, ℕ, Bool, true, List, [], ◌∷◌, map, length, sym, refl, ap, ◌∙◌, eq-eqb, eqb-true}
 use Rattle.book.proofs.Parting.{division_of}
-use Rattle.book.specs.Book.{after, answer}
-use Rattle.book.specs.Division.{Agreed, total}
-use Rattle.book.specs.Requests.{asked_by, asked_rows}
+use Rattle.book.specs.Division.{total}
 use Rattle.output.specs.Rows.{on_rows, row_of}
 use Rattle.runs.specs.Covers.{covers, some}
 use Rattle.runs.proofs.windows.in_windows.Goals as goal

@@ -4,9 +4,8 @@ use Rattle.std.specs.Result.{result_unwrap_or}
 use Rattle.book.proofs.Parting.{part_all, part_book, part_sum, parts_end, told_part}
 use Rattle.book.specs.Book.{after, after_all, answer, answers}
 use Rattle.book.specs.Division.{all_taken, parts, sum_told, total}
-use Rattle.book.specs.Requests.{Asked, Over, asked_by, asked_rows}
-use Rattle.output.specs.Rows.{Piece, on_rows, row_of}
-use Rattle.source.specs.Rows.{Row}
+use Rattle.book.specs.Requests.{asked_by, asked_rows}
+use Rattle.output.specs.Rows.{on_rows, row_of}
 use Rattle.runs.proofs.windows.make_windows.Goals as goal
 use Rattle.runs.proofs.windows.make_windows.Given as given
 

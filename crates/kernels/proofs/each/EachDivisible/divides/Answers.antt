@@ -1,7 +1,6 @@
-use Rattle.std.proofs.Common.{◌≡◌, ℕ, ◌+◌, ◌≤◌, true, ◌&&◌, eqb, sym, refl, ap, ◌∙◌, add-zero, add_assoc, arith, eqb-true}
-use Rattle.kernels.specs.Cuts.{cut_row, each_start}
-use Rattle.kernels.specs.Spans.{ends, row_in, shift}
-use Rattle.kernels.proofs.Parts.{both, free_starts, shift_is, starts, starts_free}
+use Rattle.std.proofs.Common.{◌≡◌, ℕ, ◌+◌, ◌≤◌, eqb, refl, ap, ◌∙◌, add-zero, add_assoc, arith, eqb-true}
+use Rattle.kernels.specs.Spans.{ends, shift}
+use Rattle.kernels.proofs.Parts.{both, free_starts, shift_is, starts_free}
 use Rattle.kernels.proofs.each.EachDivisible.divides.Goals as goal
 
 pub returns : goal.returns

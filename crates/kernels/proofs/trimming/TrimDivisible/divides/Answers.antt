@@ -1,4 +1,4 @@
-use Rattle.std.proofs.Common.{◌≡◌, ℕ, ◌+◌, ◌≤◌, true, ◌&&◌, get_or, None, sym, refl, ap, ◌∙◌, add-zero, add_assoc, arith}
+use Rattle.std.proofs.Common.{◌≡◌, ℕ, ◌+◌, ◌≤◌, get_or, None, refl, ap, ◌∙◌, add-zero, add_assoc, arith}
 use Rattle.fault.specs.declared.Fault.TheVariants.{Window}
 use Rattle.source.specs.Verdicts.{then, unless}
 use Rattle.kernels.specs.Spans.{ends, inside, row_in, shift}
