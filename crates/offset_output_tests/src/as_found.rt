@@ -5,9 +5,9 @@ use output::{Output, Piece};
 
 /// Adds a row and discards it: all memory is as it was found.
 pub fn tried<O: Output>(out: &mut O, piece: Piece<'_>)
-    requires { pending out.old ≡ [] }
-    ensures kept { kept out.new ≡ kept out.old }
-    ensures memory { memory out.new ≡ memory out.old }
+    requires { O.pending out.old ≡ [] }
+    ensures kept { O.kept out.new ≡ O.kept out.old }
+    ensures memory { O.memory out.new ≡ O.memory out.old }
 {
     let slip = out.open();
     let _ = out.add(piece);

@@ -42,7 +42,7 @@ fn discarded_rows_leave_nothing_behind(rt: HostRuntime) {
     );
     assert!(rt; rows == 1 && counts.rows == 1 && counts.nulls == 0 && counts.value_bytes == 2);
     let (offsets, values, validity): (&[i64], &[u8], &[u8]) = (offsets, values, validity);
-    assert!(rt; offsets == [0, 2, 0, 0, 0, 0, 0, 0, 0, 0, 0, 0]);
-    assert!(rt; values == b"hi\0\0\0\0\0");
-    assert!(rt; validity == b"\x01\0");
+    assert!(rt; offsets == [0, 2, 0, 0, 0, 0, 0, 0, 0, 0, 0, 0].as_slice());
+    assert!(rt; values == b"hi\0\0\0\0\0".as_slice());
+    assert!(rt; validity == b"\x01\0".as_slice());
 }

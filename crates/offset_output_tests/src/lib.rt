@@ -1,4 +1,6 @@
 //! Tests of the offset outputs on examples.
+#![tactic(auto)]
+
 pub mod as_found;
 #[cfg(test)]
 mod batches;

@@ -44,8 +44,8 @@ fn rows_are_read_again(rt: HostRuntime) {
     });
     assert!(rt; counts.rows == 3 && counts.nulls == 1 && counts.value_bytes == 4);
     assert!(rt; counts.buffers == 0 && counts.long_views == 0);
-    assert!(rt; lent.offsets == [0, 2, 2, 4, 0]);
-    assert!(rt; lent.values == b"hi\xc3\xa9\0\0\0\0");
+    assert!(rt; lent.offsets == [0, 2, 2, 4, 0].as_slice());
+    assert!(rt; lent.values == b"hi\xc3\xa9\0\0\0\0".as_slice());
     let mut column = OffsetColumn32::empty();
     assert!(rt; column.open(counts.rows, lent).is_ok());
     assert!(rt; column.text(0) == Some("hi"));

@@ -17,7 +17,9 @@ wipe_offsets-requires g c =
 
 pub wipe-requires : goal.wipe-requires
 wipe-requires g c =
-    (size_cut c.requires.has.holds c.args.kept.rows c.args.kept.bytes c.requires.before c.requires.bytes, c.requires.has.holds.fits)
+    let s = size_cut c.requires.has.holds c.args.kept.rows c.args.kept.bytes c.requires.before c.requires.bytes in
+    let f = c.requires.has.holds.fits in
+    (omega arith, omega arith)
 
 pub returns : goal.returns
 returns g c =
