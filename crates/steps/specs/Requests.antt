@@ -1,5 +1,5 @@
 -- What a call of any kind asks.
-use Rattle.std.specs.Prelude.{ℕ, Bool, true, false, List, ℤ, Option}
+use Rattle.std.specs.Prelude.{Bool, true, false, List, ℤ, Option}
 use Rattle.std.specs.Option.{option_map}
 use Rattle.book.specs.Requests.{Request}
 use Rattle.kernels.specs.Cuts.{Cut, each_request, index_cut, none_refused, single_request, zero_refused}
