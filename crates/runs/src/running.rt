@@ -1,5 +1,5 @@
 //! Every call of a list, one after the other.
-ghost use Rattle.std.specs.Prelude.{◌≡◌, ◌<◌, [], map, length, get_or, IfOk, None, MatchResult, OnErr, OnOk, slice_index_or};
+ghost use Rattle.std.specs.Prelude.{◌≡◌, ◌<◌, [], map, length, IfOk, None, MatchResult, OnErr, OnOk, slice_index_or};
 ghost use Rattle.book.specs.Book.{after, after_all, answer, answers};
 ghost use Rattle.book.specs.Requests.{AllOver, Over, asked_by, asked_rows, nothing};
 ghost use Rattle.book.specs.Runs.{Booked, Runs};
@@ -20,7 +20,7 @@ fn make_number<'t, L: CallList<'t>, O: Output>(
     requires { number < length (L.requests calls.now) }
     ensures answer { result ≡ answer (on_rows (O.rule out.old)) (O.kept out.old) (asked_by (O.taken out.old) (slice_index_or (L.requests calls.now) number nothing)) }
     ensures kept { O.kept out.new ≡ after (on_rows (O.rule out.old)) (O.kept out.old) (asked_by (O.taken out.old) (slice_index_or (L.requests calls.now) number nothing)) }
-    ensures book { Over (O.base out.old) (get_or (L.requests calls.now) number nothing).drawn → Booked (O.rule out.old) (map row_of (O.kept out.old)) (asked_rows (slice_index_or (L.requests calls.now) number nothing)) result (map row_of (O.kept out.new)) }
+    ensures book { Over (O.base out.old) (slice_index_or (L.requests calls.now) number nothing).drawn → Booked (O.rule out.old) (map row_of (O.kept out.old)) (asked_rows (slice_index_or (L.requests calls.now) number nothing)) result (map row_of (O.kept out.new)) }
     ensures pending { O.pending out.new ≡ [] }
     ensures rule { O.rule out.new ≡ O.rule out.old }
     ensures base { O.base out.new ≡ O.base out.old }

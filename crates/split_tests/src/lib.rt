@@ -8,6 +8,7 @@ use search::finder::Finder;
 use search::one_byte::OneByte;
 use search::plain::Plain;
 use split::split_part;
+#[cfg(test)]
 use std::process::Abort;
 use std::test::Fail;
 

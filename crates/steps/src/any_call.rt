@@ -14,6 +14,7 @@ use source::{Positions, Source};
 use trim::trimmer::{TrimBoth, TrimLeft, TrimRight};
 
 /// One of the kinds of calls.
+#[derive(Drop)]
 pub enum AnyCall<'a, S, D, P> {
     Split(Single<'a, S, Finder<'a>, SplitPart>),
     SplitEach(Each<'a, S, D, P, SplitPart>),

@@ -42,6 +42,7 @@ pub trait Trimmer {
 }
 
 /// Trims the start.
+#[derive(Clone, Copy)]
 pub struct TrimLeft;
 
 impl Trimmer for TrimLeft {
@@ -63,6 +64,7 @@ impl Trimmer for TrimLeft {
 }
 
 /// Trims the end.
+#[derive(Clone, Copy)]
 pub struct TrimRight;
 
 impl Trimmer for TrimRight {
@@ -84,6 +86,7 @@ impl Trimmer for TrimRight {
 }
 
 /// Trims the start and then the end.
+#[derive(Clone, Copy)]
 pub struct TrimBoth;
 
 impl Trimmer for TrimBoth {
