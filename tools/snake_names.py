@@ -1,11 +1,13 @@
 #!/usr/bin/env python3
 """Spells the repository's own definitions and lemmas as the kit does: words in snake case, types in camel case.
 
-usage: tools/snake_names.py        at the top of the repository, once, after the kit's port.py: rewrites crates/*/ in place
+usage: tools/snake_names.py          at the top of the repository, once, after the kit's port.py: rewrites crates/*/ in place
+       tools/snake_names.py --try    writes nothing, and says what it would stop at
+       tools/snake_names.py --force  writes though names fall together
 
 It renames each name with a hyphen that a file of specs/ or proofs/ declares, wherever proofs, definitions and clauses
 say it. Names that the checker makes (of goals, loops, branches) stay, and so do comments, strings and the code itself.
-It stops without writing where two names would fall together in a file.
+It stops without writing where two names would fall together in a file; a part of a module's path is no such name.
 """
 import os
 import re
@@ -51,13 +53,19 @@ def ghost_spans(text):
 
 def code_spans(path, text):
     if path.endswith(".rt"):
-        return [s for s in ghost_spans(text)]
+        return ghost_spans(text)
     spans, at = [], 0
     for line in text.splitlines(keepends=True):
         comment = re.search(r"(?:^|\s)--(?:\s|$)", line)
         spans.append((at, at + (comment.start() if comment else len(line))))
         at += len(line)
     return spans
+
+
+def in_path(text, token):
+    """Whether a word is a folder or a module in the path of a `use` line."""
+    line = text[text.rfind("\n", 0, token.start()) + 1:token.start()]
+    return re.match(r"(?:pub |ghost )*use [\w.+]*$", line) is not None
 
 
 def main():
@@ -88,7 +96,7 @@ def main():
     out, dotted, clashes = {}, set(), []
     for path, text in texts.items():
         spans = code_spans(path, text)
-        before = {t.group() for s, e in spans for t in TOKEN.finditer(text, s, e)}
+        before = {t.group() for s, e in spans for t in TOKEN.finditer(text, s, e) if not in_path(text, t)}
         said = set()
         parts, at = [], 0
         for s, e in spans:
