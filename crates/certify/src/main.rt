@@ -1,7 +1,6 @@
 //! certify: cuts and judges the bench lines of an upload.
 #![tactic(auto)]
 
-use anyhow::anyhow;
 use certificates::kinds::Kind;
 use certificates::reading::{condition, line_kind};
 use certificates::tally::{Outcome, Tally};
@@ -10,6 +9,7 @@ use fault::Fault;
 use offsets::OffsetLists;
 use source::Source;
 use std::io::Read;
+use std::process::ExitCode;
 use std::{env, fs, io};
 use values::Values;
 use view_lists::ViewLists;
@@ -52,17 +52,17 @@ enum Layout {
     View,
 }
 
-fn main(rt: HostRuntime) -> anyhow::Result<()> {
+fn main(rt: HostRuntime) -> anyhow::Result<ExitCode> {
     run(&rt)
 }
 
-/// Says what is wrong with the command line.
-fn usage(rt: &HostRuntime, what: &str) -> anyhow::Result<()> {
+/// Says what is wrong with the command line, and ends with status 1.
+fn usage(rt: &HostRuntime, what: &str) -> anyhow::Result<ExitCode> {
     eprintln!(rt; "certify: {what}; see certify --help")?;
-    Err(anyhow!("usage"))
+    Ok(ExitCode::FAILURE)
 }
 
-fn run(rt: &HostRuntime) -> anyhow::Result<()> {
+fn run(rt: &HostRuntime) -> anyhow::Result<ExitCode> {
     let mut words = env::args(rt)?;
     let _program = words.next();
     let mut layout = Layout::Offset;
@@ -70,7 +70,7 @@ fn run(rt: &HostRuntime) -> anyhow::Result<()> {
     if let Some(option) = &word {
         if option.as_str() == "--help" {
             println!(rt; "{HELP}")?;
-            return Ok(());
+            return Ok(ExitCode::SUCCESS);
         }
         if option.as_str() == "--layout" {
             layout = match words.next() {
@@ -94,23 +94,23 @@ fn run(rt: &HostRuntime) -> anyhow::Result<()> {
     }
 }
 
-fn read_file(rt: &HostRuntime, layout: Layout, path: &str) -> anyhow::Result<()> {
+fn read_file(rt: &HostRuntime, layout: Layout, path: &str) -> anyhow::Result<ExitCode> {
     match fs::read(rt, path) {
         Ok(upload) => lay_out(rt, layout, upload.as_slice()),
         Err(error) => {
             eprintln!(rt; "certify: cannot read {path}: {error}")?;
-            Err(error.into())
+            Ok(ExitCode::FAILURE)
         }
     }
 }
 
-/// Says that an upload could not be held.
-fn refused(rt: &HostRuntime, fault: Fault) -> anyhow::Result<()> {
+/// Says that an upload could not be held, and ends with status 1.
+fn refused(rt: &HostRuntime, fault: Fault) -> anyhow::Result<ExitCode> {
     eprintln!(rt; "certify: {fault}")?;
-    Err(anyhow!("the upload cannot be opened"))
+    Ok(ExitCode::FAILURE)
 }
 
-fn lay_out(rt: &HostRuntime, layout: Layout, upload: &[u8]) -> anyhow::Result<()> {
+fn lay_out(rt: &HostRuntime, layout: Layout, upload: &[u8]) -> anyhow::Result<ExitCode> {
     let lines = Values::new(rt.alloc(), upload)?;
     match layout {
         Layout::Offset => by_offsets(rt, lines),
@@ -118,7 +118,7 @@ fn lay_out(rt: &HostRuntime, layout: Layout, upload: &[u8]) -> anyhow::Result<()
     }
 }
 
-fn by_offsets(rt: &HostRuntime, lines: Values) -> anyhow::Result<()> {
+fn by_offsets(rt: &HostRuntime, lines: Values) -> anyhow::Result<ExitCode> {
     let Some(mut lists) = OffsetLists::new(rt.alloc(), lines)? else {
         return usage(rt, "the upload is too large for offsets");
     };
@@ -128,7 +128,7 @@ fn by_offsets(rt: &HostRuntime, lines: Values) -> anyhow::Result<()> {
     certify_offsets(rt, &lists)
 }
 
-fn certify_offsets(rt: &HostRuntime, lists: &OffsetLists) -> anyhow::Result<()> {
+fn certify_offsets(rt: &HostRuntime, lists: &OffsetLists) -> anyhow::Result<ExitCode> {
     let mut column = OffsetColumn64::empty();
     match column.open(lists.rows(), lists.all()) {
         Ok(()) => certify(rt, &column),
@@ -136,7 +136,7 @@ fn certify_offsets(rt: &HostRuntime, lists: &OffsetLists) -> anyhow::Result<()> 
     }
 }
 
-fn by_views(rt: &HostRuntime, lines: Values) -> anyhow::Result<()> {
+fn by_views(rt: &HostRuntime, lines: Values) -> anyhow::Result<ExitCode> {
     let Some(mut lists) = ViewLists::new(rt.alloc(), lines)? else {
         return usage(rt, "the upload is too large for views");
     };
@@ -146,7 +146,7 @@ fn by_views(rt: &HostRuntime, lines: Values) -> anyhow::Result<()> {
     certify_views(rt, &lists)
 }
 
-fn certify_views(rt: &HostRuntime, lists: &ViewLists) -> anyhow::Result<()> {
+fn certify_views(rt: &HostRuntime, lists: &ViewLists) -> anyhow::Result<ExitCode> {
     let mut column = ViewColumn::empty();
     match column.open(lists.rows(), lists.all()) {
         Ok(()) => certify(rt, &column),
@@ -155,14 +155,14 @@ fn certify_views(rt: &HostRuntime, lists: &ViewLists) -> anyhow::Result<()> {
 }
 
 /// Tells of every row of a column, and then the counts.
-fn certify<'a, S: Source<'a>>(rt: &HostRuntime, column: &S) -> anyhow::Result<()> {
+fn certify<'a, S: Source<'a>>(rt: &HostRuntime, column: &S) -> anyhow::Result<ExitCode> {
     let mut tally = Tally::new();
     for row in 0..column.rows() {
         let outcome = certify_row(rt, row, column.text(row))?;
         tally.count(outcome)?;
     }
     println!(rt; "{tally}")?;
-    Ok(())
+    Ok(ExitCode::SUCCESS)
 }
 
 /// Tells of one line. A null row is one that opening refused.
