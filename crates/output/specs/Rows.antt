@@ -50,6 +50,14 @@ abbrev pub Comes : Option (List Row) → Piece → Type 0
 Comes None p = Unit {0}
 Comes (Some rows) p = Part rows p.from p.place p.row
 
+-- what an output was made with, and what never changes: the rule by which it takes rows, the base that they come from where
+-- there is one, what it makes of a piece, and the sizes of its memory
+pub record Terms : Type 0 where
+  pub rule : Rule
+  pub base : Option (List Row)
+  pub taken : Piece → Piece
+  pub sizes : List ℕ
+
 -- how many rows are null
 abbrev pub nulls_in : List Row → ℕ
 nulls_in [] = 0

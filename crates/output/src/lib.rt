@@ -5,7 +5,7 @@
 ghost use Rattle.std.specs.Prelude.{◌≡◌, ℕ, List, [], ◌++◌, map, length, None, Option};
 ghost use Rattle.output.specs.declared.Counts.{Counts};
 ghost use Rattle.output.specs.Pieces.{piece_of};
-ghost use Rattle.output.specs.Rows.{Comes, OwnFault, Rule, grown, nulls_in, row_of};
+ghost use Rattle.output.specs.Rows.{Comes, OwnFault, Terms, grown, nulls_in, row_of};
 ghost use Rattle.output.specs.Rows.{Piece as Held};
 ghost use Rattle.source.specs.Rows.{Row};
 ghost use Rattle.source.specs.Verdicts.{Verdict, fault_of};
@@ -40,7 +40,7 @@ pub struct Counts {
     pub long_views: usize,
 }
 
-/// An output means the rows that it keeps, the rows that are pending, and a rule. None of the other members ever changes.
+/// An output means the rows that it keeps, the rows that are pending, and the terms on which it takes rows, which never change.
 pub trait Output {
     /// What is given back at the end.
     type Memory;
@@ -49,31 +49,13 @@ pub trait Output {
 
     ghost pending: { Self → List Held };
 
-    ghost rule: { Self → Rule };
-
-    ghost base: { Self → Option (List Row) };
-
-    ghost taken: { Self → Held → Held };
-
-    ghost sizes: { Self → List ℕ };
+    ghost terms: { Self → Terms };
 
     ghost memory: { Self → List ℕ };
 
     ghost reading: { Self.Memory → Counts → List Row };
 
     ghost opened: { Self.Memory → Counts → Verdict };
-
-    /// A fact for proofs, that it makes of a piece of its base the row that the piece is; it does nothing.
-    fn faithful(&self)
-        ensures { (p : Held) → Comes (base self.now) p → row_of (taken self.now p) ≡ row_of p };
-
-    /// A fact for proofs, that the sizes of the memory and the rows held fix the whole memory; it does nothing.
-    fn fixed(&self)
-        ensures { (b : Self) → sizes self.now ≡ sizes b → kept self.now ≡ kept b → pending self.now ≡ pending b → memory self.now ≡ memory b };
-
-    /// A fact for proofs, that what it refuses a row for is a fault of outputs; it does nothing.
-    fn refusals(&self)
-        ensures { (rows : List Row) (row : Row) → OwnFault (rule self.now rows row) };
 
     /// The number of rows kept.
     fn rows(&self) -> usize
@@ -83,50 +65,35 @@ pub trait Output {
     fn open(&mut self) -> Slip
         ensures kept { kept self.new ≡ kept self.old }
         ensures pending { pending self.new ≡ pending self.old }
-        ensures rule { rule self.new ≡ rule self.old }
-        ensures base { base self.new ≡ base self.old }
-        ensures taken { taken self.new ≡ taken self.old }
-        ensures sizes { sizes self.new ≡ sizes self.old }
+        ensures terms { terms self.new ≡ terms self.old }
     {
         Slip(())
     }
 
     /// Puts a row last among the pending ones, or says why not.
     fn add(&mut self, piece: Piece<'_>) -> Result<(), Fault>
-        ensures verdict { fault_of result ≡ rule self.old (map row_of (kept self.old ++ pending self.old)) (row_of (taken self.old (piece_of piece.entry))) }
+        ensures verdict { fault_of result ≡ (terms self.old).rule (map row_of (kept self.old ++ pending self.old)) (row_of ((terms self.old).taken (piece_of piece.entry))) }
         ensures kept { kept self.new ≡ kept self.old }
-        ensures pending { pending self.new ≡ grown result (pending self.old) (taken self.old (piece_of piece.entry)) }
-        ensures rule { rule self.new ≡ rule self.old }
-        ensures base { base self.new ≡ base self.old }
-        ensures taken { taken self.new ≡ taken self.old }
-        ensures sizes { sizes self.new ≡ sizes self.old };
+        ensures pending { pending self.new ≡ grown result (pending self.old) ((terms self.old).taken (piece_of piece.entry)) }
+        ensures terms { terms self.new ≡ terms self.old };
 
     /// Moves the pending rows behind the kept ones. Callers give a slip back by `keep`.
     fn keep_pending(&mut self)
         ensures kept { kept self.new ≡ kept self.old ++ pending self.old }
         ensures pending { pending self.new ≡ [] }
-        ensures rule { rule self.new ≡ rule self.old }
-        ensures base { base self.new ≡ base self.old }
-        ensures taken { taken self.new ≡ taken self.old }
-        ensures sizes { sizes self.new ≡ sizes self.old };
+        ensures terms { terms self.new ≡ terms self.old };
 
     /// Drops the pending rows. Callers give a slip back by `discard`.
     fn drop_pending(&mut self)
         ensures kept { kept self.new ≡ kept self.old }
         ensures pending { pending self.new ≡ [] }
-        ensures rule { rule self.new ≡ rule self.old }
-        ensures base { base self.new ≡ base self.old }
-        ensures taken { taken self.new ≡ taken self.old }
-        ensures sizes { sizes self.new ≡ sizes self.old };
+        ensures terms { terms self.new ≡ terms self.old };
 
     /// Ends a batch: moves the pending rows behind the kept ones.
     fn keep(&mut self, slip: Slip)
         ensures kept { kept self.new ≡ kept self.old ++ pending self.old }
         ensures pending { pending self.new ≡ [] }
-        ensures rule { rule self.new ≡ rule self.old }
-        ensures base { base self.new ≡ base self.old }
-        ensures taken { taken self.new ≡ taken self.old }
-        ensures sizes { sizes self.new ≡ sizes self.old }
+        ensures terms { terms self.new ≡ terms self.old }
     {
         slip.spend();
         self.keep_pending();
@@ -136,10 +103,7 @@ pub trait Output {
     fn discard(&mut self, slip: Slip)
         ensures kept { kept self.new ≡ kept self.old }
         ensures pending { pending self.new ≡ [] }
-        ensures rule { rule self.new ≡ rule self.old }
-        ensures base { base self.new ≡ base self.old }
-        ensures taken { taken self.new ≡ taken self.old }
-        ensures sizes { sizes self.new ≡ sizes self.old }
+        ensures terms { terms self.new ≡ terms self.old }
     {
         slip.spend();
         self.drop_pending();
@@ -153,4 +117,13 @@ pub trait Output {
         ensures rows { result.0.rows ≡ length (kept self) }
         ensures nulls { result.0.nulls ≡ nulls_in (map row_of (kept self)) }
         ensures accepted { opened result.1 result.0 ≡ None };
+
+    // What it makes of a piece of its base is the row that the piece is.
+    ghost faithful: { (s : Self) (p : Held) → Comes (terms s).base p → row_of ((terms s).taken p) ≡ row_of p };
+
+    // The sizes of the memory and the rows held fix the whole memory.
+    ghost fixed: { (a b : Self) → (terms a).sizes ≡ (terms b).sizes → kept a ≡ kept b → pending a ≡ pending b → memory a ≡ memory b };
+
+    // What it refuses a row for is a fault of outputs.
+    ghost refusals: { (s : Self) (rows : List Row) (row : Row) → OwnFault ((terms s).rule rows row) };
 }
