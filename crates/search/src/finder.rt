@@ -1,5 +1,7 @@
 //! The searcher that goes by the delimiter's length.
 ghost use Rattle.std.specs.Prelude.{◌≡◌};
+ghost use Rattle.text.specs.Table.{WellFormed};
+ghost use Rattle.text.proofs.Cuts.{well_formed_had};
 
 use crate::Searcher;
 use crate::one_byte::OneByte;
@@ -9,6 +11,7 @@ use crate::plain::Plain;
 #[derive(Clone, Copy)]
 pub struct Finder<'a> {
     delimiter: &'a str,
+    ghost text: { ∥ WellFormed delimiter.now ∥₁ },
 }
 
 impl<'a> Finder<'a> {
@@ -22,6 +25,8 @@ impl<'a> Finder<'a> {
 
 impl<'a> Searcher for Finder<'a> {
     ghost delimiter = { λ s. s.delimiter.now };
+
+    ghost texts = { λ s. well_formed_had s.delimiter.now s.text };
 
     fn len(&self) -> usize {
         self.delimiter.len()
@@ -39,9 +44,5 @@ impl<'a> Searcher for Finder<'a> {
             Some(one) => one.rfind(text),
             None => Plain::new(self.delimiter).rfind(text),
         }
-    }
-
-    fn is_text(&self) {
-        let _text = self.delimiter.as_bytes();
     }
 }

@@ -28,7 +28,6 @@ pub trait Searcher {
         ensures place { result ≡ highest (delimiter self.now) text.now }
         ensures meaning { Highest (delimiter self.now) text.now result };
 
-    /// A lemma for code above, which cuts texts beside the delimiter: it does nothing when run.
-    fn is_text(&self)
-        ensures { WellFormed (delimiter self.now) };
+    // So code above may cut a text beside the delimiter.
+    ghost texts: { (s : Self) → WellFormed (delimiter s) };
 }
