@@ -23,6 +23,7 @@ pub trait Searcher {
         ensures place { result ≡ lowest (delimiter self.now) text.now }
         ensures meaning { Lowest (delimiter self.now) text.now result };
 
+    // The twin of `find`: the two keep the Rust's names and differ in direction, not in a type, a size or a constant.
     /// The highest place where the delimiter stands in `text`; nothing where it stands nowhere or is empty.
     fn rfind(&self, text: &[u8]) -> Option<usize>
         ensures place { result ≡ highest (delimiter self.now) text.now }
