@@ -9,7 +9,7 @@ use crate::Searcher;
 /// A one-byte text is an ASCII character.
 #[derive(Clone, Copy)]
 pub struct OneByte {
-    byte: u8,
+    pub(crate) byte: u8,
     ghost ascii: { byte < 128 },
 }
 

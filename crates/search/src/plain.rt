@@ -9,7 +9,7 @@ use crate::Searcher;
 /// Any text as a delimiter.
 #[derive(Clone, Copy)]
 pub struct Plain<'a> {
-    delimiter: &'a str,
+    pub(crate) delimiter: &'a str,
     ghost text: { ∥ WellFormed delimiter.now ∥₁ },
 }
 
