@@ -22,13 +22,13 @@ pub fn substr_index_slice_finder<'a, F: Searcher>(
 ) -> (&'a str, u64)
     ensures { part result ≡ before_place string.now (slice_get (occurrences (F.delimiter finder.now) string.now) n) }
 {
-    finder.is_text();
     match occurrence_left(string.as_bytes(), finder, n) {
         Some(pos) => (&string[0..pos], 0),
         None => (string, 0),
     }
 }
 
+// The twin of `substr_index_slice_finder`: the two keep the Rust's names and differ in direction, not in a type, a size or a constant.
 /// What follows occurrence `n` (0-based) from the right; the whole string where there are fewer.
 pub fn substr_index_rslice_finder<'a, F: Searcher>(
     string: &'a str,
@@ -37,7 +37,6 @@ pub fn substr_index_rslice_finder<'a, F: Searcher>(
 ) -> (&'a str, u64)
     ensures { part result ≡ after_place (F.delimiter finder.now) string.now (slice_get (occurrences_back (F.delimiter finder.now) string.now) n) }
 {
-    finder.is_text();
     match occurrence_right(string.as_bytes(), finder, n) {
         Some(pos) => {
             let start = pos + finder.len();

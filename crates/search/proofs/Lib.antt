@@ -1,3 +1,4 @@
 pub mod Standing
 pub mod Nearest
 pub mod Single
+pub mod Windows

@@ -1,5 +1,8 @@
 //! The searcher that goes by the delimiter's length.
 ghost use Rattle.std.specs.Prelude.{◌≡◌};
+ghost use Rattle.search.specs.Sought.{byte_text, sought};
+ghost use Rattle.search.specs.declared.finder.Finder.TheVariants.{Byte, Text};
+ghost use Rattle.text.proofs.Cuts.{well_formed_had};
 
 use crate::Searcher;
 use crate::one_byte::OneByte;
@@ -7,41 +10,46 @@ use crate::plain::Plain;
 
 /// Any text as a delimiter, sought by the searcher for one byte where it has one, and else by the plain one.
 #[derive(Clone, Copy)]
-pub struct Finder<'a> {
-    delimiter: &'a str,
+pub enum Finder<'a> {
+    Byte(OneByte),
+    Text(Plain<'a>),
 }
 
 impl<'a> Finder<'a> {
     /// The searcher for a text.
     pub fn new(delimiter: &'a str) -> Self
-        ensures { result.delimiter.now ≡ delimiter.now }
+        ensures { sought result ≡ delimiter.now }
     {
-        Finder { delimiter }
+        match OneByte::new(delimiter) {
+            Some(one) => Finder::Byte(one),
+            None => Finder::Text(Plain::new(delimiter)),
+        }
     }
 }
 
 impl<'a> Searcher for Finder<'a> {
-    ghost delimiter = { λ s. s.delimiter.now };
+    ghost delimiter = { sought };
+
+    ghost texts = { elim [ Byte one ↦ byte_text one.byte one.ascii | Text plain ↦ well_formed_had plain.delimiter.now plain.text ] };
 
     fn len(&self) -> usize {
-        self.delimiter.len()
+        match self {
+            Finder::Byte(one) => one.len(),
+            Finder::Text(plain) => plain.len(),
+        }
     }
 
     fn find(&self, text: &[u8]) -> Option<usize> {
-        match OneByte::new(self.delimiter) {
-            Some(one) => one.find(text),
-            None => Plain::new(self.delimiter).find(text),
+        match self {
+            Finder::Byte(one) => one.find(text),
+            Finder::Text(plain) => plain.find(text),
         }
     }
 
     fn rfind(&self, text: &[u8]) -> Option<usize> {
-        match OneByte::new(self.delimiter) {
-            Some(one) => one.rfind(text),
-            None => Plain::new(self.delimiter).rfind(text),
+        match self {
+            Finder::Byte(one) => one.rfind(text),
+            Finder::Text(plain) => plain.rfind(text),
         }
-    }
-
-    fn is_text(&self) {
-        let _text = self.delimiter.as_bytes();
     }
 }

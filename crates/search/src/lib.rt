@@ -23,12 +23,12 @@ pub trait Searcher {
         ensures place { result ≡ lowest (delimiter self.now) text.now }
         ensures meaning { Lowest (delimiter self.now) text.now result };
 
+    // The twin of `find`: the two keep the Rust's names and differ in direction, not in a type, a size or a constant.
     /// The highest place where the delimiter stands in `text`; nothing where it stands nowhere or is empty.
     fn rfind(&self, text: &[u8]) -> Option<usize>
         ensures place { result ≡ highest (delimiter self.now) text.now }
         ensures meaning { Highest (delimiter self.now) text.now result };
 
-    /// A lemma for code above, which cuts texts beside the delimiter: it does nothing when run.
-    fn is_text(&self)
-        ensures { WellFormed (delimiter self.now) };
+    // So code above may cut a text beside the delimiter.
+    ghost texts: { (s : Self) → WellFormed (delimiter s) };
 }

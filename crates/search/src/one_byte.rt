@@ -1,5 +1,6 @@
 //! The searcher for a delimiter of one byte: one pass over the text.
-ghost use Rattle.std.specs.Prelude.{◌≡◌, ◌<◌, [], ◌∷◌};
+ghost use Rattle.std.specs.Prelude.{◌≡◌, ◌<◌, [], ◌∷◌, refl};
+ghost use Rattle.std.proofs.Common.{rules};
 ghost use Rattle.std.specs.Option.{option_map};
 ghost use Rattle.search.specs.Places.{if_one_byte};
 
@@ -8,7 +9,7 @@ use crate::Searcher;
 /// A one-byte text is an ASCII character.
 #[derive(Clone, Copy)]
 pub struct OneByte {
-    byte: u8,
+    pub(crate) byte: u8,
     ghost ascii: { byte < 128 },
 }
 
@@ -28,27 +29,17 @@ impl OneByte {
 impl Searcher for OneByte {
     ghost delimiter = { λ s. s.byte ∷ [] };
 
+    ghost texts = { λ s. ((s.byte ∷ []) ∷ [], (let low = s.ascii in Prim.search rules, refl)) };
+
     fn len(&self) -> usize {
         1
     }
 
     fn find(&self, text: &[u8]) -> Option<usize> {
-        for (i, b) in text.iter().enumerate() {
-            if *b == self.byte {
-                return Some(i);
-            }
-        }
-        None
+        text.iter().position(|byte| *byte == self.byte)
     }
 
     fn rfind(&self, text: &[u8]) -> Option<usize> {
-        for i in (0..text.len()).rev() {
-            if text[i] == self.byte {
-                return Some(i);
-            }
-        }
-        None
+        text.iter().rposition(|byte| *byte == self.byte)
     }
-
-    fn is_text(&self) {}
 }

@@ -1,13 +1,16 @@
 //! The plain searcher, for a delimiter of any length: every place is tried.
 //! It stays the yardstick for any faster one.
 ghost use Rattle.std.specs.Prelude.{◌≡◌};
+ghost use Rattle.text.specs.Table.{WellFormed};
+ghost use Rattle.text.proofs.Cuts.{well_formed_had};
 
 use crate::Searcher;
 
 /// Any text as a delimiter.
 #[derive(Clone, Copy)]
 pub struct Plain<'a> {
-    delimiter: &'a str,
+    pub(crate) delimiter: &'a str,
+    ghost text: { ∥ WellFormed delimiter.now ∥₁ },
 }
 
 impl<'a> Plain<'a> {
@@ -22,47 +25,27 @@ impl<'a> Plain<'a> {
 impl<'a> Searcher for Plain<'a> {
     ghost delimiter = { λ s. s.delimiter.now };
 
+    ghost texts = { λ s. well_formed_had s.delimiter.now s.text };
+
     fn len(&self) -> usize {
         self.delimiter.len()
     }
 
     fn find(&self, text: &[u8]) -> Option<usize> {
         let delimiter = self.delimiter.as_bytes();
-        let m = delimiter.len();
-        if m == 0 || text.len() < m {
+        if delimiter.is_empty() {
             return None;
         }
-        let last = text.len() - m;
-        'places: for at in 0..=last {
-            for k in 0..m {
-                if text[at + k] != delimiter[k] {
-                    continue 'places;
-                }
-            }
-            return Some(at);
-        }
-        None
+        text.windows(delimiter.len())
+            .position(|part| part == delimiter)
     }
 
     fn rfind(&self, text: &[u8]) -> Option<usize> {
         let delimiter = self.delimiter.as_bytes();
-        let m = delimiter.len();
-        if m == 0 || text.len() < m {
+        if delimiter.is_empty() {
             return None;
         }
-        let last = text.len() - m;
-        'places: for at in (0..=last).rev() {
-            for k in 0..m {
-                if text[at + k] != delimiter[k] {
-                    continue 'places;
-                }
-            }
-            return Some(at);
-        }
-        None
-    }
-
-    fn is_text(&self) {
-        let _text = self.delimiter.as_bytes();
+        text.windows(delimiter.len())
+            .rposition(|part| part == delimiter)
     }
 }

@@ -23,7 +23,6 @@ pub fn split_nth_finder<'a, F: Searcher>(
 ) -> Option<(&'a str, u64)>
     ensures { option_map part result ≡ slice_get (left_fields (F.delimiter finder.now) string.now) n }
 {
-    finder.is_text();
     let bytes = string.as_bytes();
     let start = past_occurrences(bytes, finder, n)?;
     match finder.find(&bytes[start..]) {
@@ -32,6 +31,7 @@ pub fn split_nth_finder<'a, F: Searcher>(
     }
 }
 
+// The twin of `split_nth_finder`: the two keep the Rust's names and differ in direction, not in a type, a size or a constant.
 /// Like `split_nth_finder`, but `n` counts from the end, and so do the occurrences.
 pub fn rsplit_nth_finder<'a, F: Searcher>(
     string: &'a str,
@@ -40,7 +40,6 @@ pub fn rsplit_nth_finder<'a, F: Searcher>(
 ) -> Option<(&'a str, u64)>
     ensures { option_map part result ≡ slice_get (right_fields (F.delimiter finder.now) string.now) n }
 {
-    finder.is_text();
     let bytes = string.as_bytes();
     let end = before_occurrences(bytes, finder, n)?;
     match finder.rfind(&bytes[0..end]) {
@@ -50,13 +49,6 @@ pub fn rsplit_nth_finder<'a, F: Searcher>(
         }
         None => Some((&string[0..end], 0)),
     }
-}
-
-/// A field, or an empty one at place 0 where it is not there.
-fn or_missing(field: Option<(&str, u64)>) -> (&str, u64)
-    ensures { part result ≡ unwrap_or (option_map part field.entry) missing }
-{
-    field.unwrap_or(("", 0))
 }
 
 /// The field at a position: 1 is the first, -1 the last. A field that is not there is empty, at place 0.
@@ -76,9 +68,10 @@ pub fn split_part<'a, F: Searcher>(
         return Err(Fault::ZeroPosition { row: 0 });
     }
     let n = position.unsigned_abs() - 1;
-    if position > 0 {
-        Ok(or_missing(split_nth_finder(string, finder, n)))
+    let field = if position > 0 {
+        split_nth_finder(string, finder, n)
     } else {
-        Ok(or_missing(rsplit_nth_finder(string, finder, n)))
-    }
+        rsplit_nth_finder(string, finder, n)
+    };
+    Ok(field.unwrap_or(("", 0)))
 }

@@ -17,6 +17,7 @@ pub fn past_occurrences<F: Searcher>(row: &[u8], finder: &F, n: u64) -> Option<u
     Some(start)
 }
 
+// The twin of `past_occurrences`: the two keep the Rust's names and differ in direction, not in a type, a size or a constant.
 /// Where the first `n` occurrences from the right begin; nothing where there are fewer.
 pub fn before_occurrences<F: Searcher>(row: &[u8], finder: &F, n: u64) -> Option<usize>
     ensures place { result ≡ start_before (length row.now) (occurrences_back (F.delimiter finder.now) row.now) n }

@@ -1,8 +1,7 @@
-use Rattle.std.proofs.Common.{◌≡◌, ◌+◌, length, take, Some, IsUtf8, sym, ap, ◌∙◌, subst, arith}
+use Rattle.std.proofs.Common.{◌≡◌, ◌+◌, length, take, Some, sym, ap, ◌∙◌, subst}
 use native.Mathlib.Nat.{sub-zero}
 use Rattle.std.specs.Option.{option_map}
 use Rattle.std.specs.Str.{IsCharBoundary}
-use Rattle.std.proofs.lemmas.Str.{IsCharBoundary-start}
 use Rattle.std.specs.List.{between}
 use Rattle.split.specs.Fields.{part}
 use Rattle.split.proofs.Seams.{sides, walked_back_seam}
@@ -15,32 +14,24 @@ returns-in_err-end g c =
     let d = g.F.Searcher.delimiter c.args.finder.now in
     ap (option_map part) c.from_residual.ensures ∙ sym (right_gone d _ _ (start_row d _ _ c.as_bytes-bytes.ensures.value _ _ c.in_err-end.ensures.place))
 
-pub range-requires : goal.range-requires
-range-requires g c =
+pub range-requires-clause-start_boundary : goal.range-requires-clause-start_boundary
+range-requires-clause-start_boundary g c =
     let d = g.F.Searcher.delimiter c.args.finder.now in
     let t = c.args.string.now in
     let e = c.as_bytes-bytes.ensures.value in
-    let u = subst IsUtf8 e c.as_bytes-bytes.ensures.utf8 in
-    let w = c.is_text.ensures in
     let n = prior_row d _ t e _ c.in-Some.pos c.in-Some.ensures.meaning in
     let size : c.in-Some.pos + length d ≡ c.in-Some.pos + c.len.result = ap (λ k. c.in-Some.pos + k) (sym c.len.ensures) in
-    record {
-      start_le_end = omega (arith, n.before, c.len.ensures);
-      start_boundary = λ _. subst (IsCharBoundary t) size (sides d t u w c.in-Some.pos n.here).1;
-      end_boundary = walked_back_seam d t u w _ _ (start_row d _ t e _ _ c.in_ok-end.ensures.place);
-    }
+    λ _. subst (IsCharBoundary t) size (sides d t c.utf8.string (g.met.F.Searcher.texts c.args.finder.now) c.in-Some.pos n.here).1
 
-pub range-requires-in-None : goal.range-requires-in-None
-range-requires-in-None g c =
+pub range-requires-clause-end_boundary : goal.range-requires-clause-end_boundary
+range-requires-clause-end_boundary g c =
     let d = g.F.Searcher.delimiter c.args.finder.now in
-    let t = c.args.string.now in
-    let e = c.as_bytes-bytes.ensures.value in
-    let u = subst IsUtf8 e c.as_bytes-bytes.ensures.utf8 in
-    record {
-      start_le_end = omega arith;
-      start_boundary = λ _. IsCharBoundary-start t u;
-      end_boundary = walked_back_seam d t u c.is_text.ensures _ _ (start_row d _ t e _ _ c.in_ok-end.ensures.place);
-    }
+    walked_back_seam d _ c.utf8.string (g.met.F.Searcher.texts c.args.finder.now) _ _ (start_row d _ _ c.as_bytes-bytes.ensures.value _ _ c.in_ok-end.ensures.place)
+
+pub range-requires-in-None-clause-end_boundary : goal.range-requires-in-None-clause-end_boundary
+range-requires-in-None-clause-end_boundary g c =
+    let d = g.F.Searcher.delimiter c.args.finder.now in
+    walked_back_seam d _ c.utf8.string (g.met.F.Searcher.texts c.args.finder.now) _ _ (start_row d _ _ c.as_bytes-bytes.ensures.value _ _ c.in_ok-end.ensures.place)
 
 pub returns-in-Some : goal.returns-in-Some
 returns-in-Some g c =

@@ -1,4 +1,4 @@
-use Rattle.std.proofs.Common.{Some, IsUtf8, sym, ap, ◌∙◌, subst, arith}
+use Rattle.std.proofs.Common.{Some, sym, ap, ◌∙◌}
 use Rattle.std.specs.Option.{option_map}
 use Rattle.split.specs.Fields.{part}
 use Rattle.split.proofs.Seams.{sides, walked_seam}
@@ -11,24 +11,20 @@ returns-in_err-start g c =
     let d = g.F.Searcher.delimiter c.args.finder.now in
     ap (option_map part) c.from_residual.ensures ∙ sym (left_gone d _ _ (end_row d _ _ c.as_bytes-bytes.ensures.value _ _ c.in_err-start.ensures.place))
 
-pub range-requires : goal.range-requires
-range-requires g c =
+pub range-requires-clause-start_boundary : goal.range-requires-clause-start_boundary
+range-requires-clause-start_boundary g c =
     let d = g.F.Searcher.delimiter c.args.finder.now in
-    let e = c.as_bytes-bytes.ensures.value in
-    let u = subst IsUtf8 e c.as_bytes-bytes.ensures.utf8 in
-    let w = c.is_text.ensures in
-    record {
-      start_le_end = omega arith;
-      start_boundary = λ _. walked_seam d _ u w _ _ (end_row d _ _ e _ _ c.in_ok-start.ensures.place);
-      end_boundary = (sides d _ u w _ (next_row d _ _ e _ _ c.in-Some.ensures.meaning).here).0;
-    }
+    λ _. walked_seam d _ c.utf8.string (g.met.F.Searcher.texts c.args.finder.now) _ _ (end_row d _ _ c.as_bytes-bytes.ensures.value _ _ c.in_ok-start.ensures.place)
+
+pub range-requires-clause-end_boundary : goal.range-requires-clause-end_boundary
+range-requires-clause-end_boundary g c =
+    let d = g.F.Searcher.delimiter c.args.finder.now in
+    (sides d _ c.utf8.string (g.met.F.Searcher.texts c.args.finder.now) _ (next_row d _ _ c.as_bytes-bytes.ensures.value _ _ c.in-Some.ensures.meaning).here).0
 
 pub range_from-requires : goal.range_from-requires
 range_from-requires g c =
     let d = g.F.Searcher.delimiter c.args.finder.now in
-    let e = c.as_bytes-bytes.ensures.value in
-    let u = subst IsUtf8 e c.as_bytes-bytes.ensures.utf8 in
-    λ _. walked_seam d _ u c.is_text.ensures _ _ (end_row d _ _ e _ _ c.in_ok-start.ensures.place)
+    λ _. walked_seam d _ c.utf8.string (g.met.F.Searcher.texts c.args.finder.now) _ _ (end_row d _ _ c.as_bytes-bytes.ensures.value _ _ c.in_ok-start.ensures.place)
 
 pub returns-in-Some : goal.returns-in-Some
 returns-in-Some g c =

@@ -1,28 +1,9 @@
 use Rattle.std.proofs.Common.{sym, ◌∙◌}
-use Rattle.std.proofs.lemmas.Option.{MatchOption-from_none}
-use Rattle.split.proofs.Parts.{prior_front, none_front}
-use Rattle.index.proofs.Picking.{right_gone, right_here, right_none}
+use Rattle.index.proofs.Picking.{right_gone, right_at}
 use Rattle.index.proofs.occurrence.occurrence_right.Goals as goal
 
-pub returns-in_err-end : goal.returns-in_err-end
-returns-in_err-end g c =
-    let d = g.F.Searcher.delimiter c.args.finder.now in
-    let e = c.from_residual.ensures in
-    record { place = e ∙ sym (right_gone d c.args.row.now _ c.in_err-end.ensures.place); here = MatchOption-from_none _ _ e }
+pub returns-in_err-end-clause-place : goal.returns-in_err-end-clause-place
+returns-in_err-end-clause-place g c = c.from_residual.ensures ∙ sym (right_gone (g.F.Searcher.delimiter c.args.finder.now) c.args.row.now _ c.in_err-end.ensures.place)
 
-pub returns-in_err-rfind : goal.returns-in_err-rfind
-returns-in_err-rfind g c =
-    let d = g.F.Searcher.delimiter c.args.finder.now in
-    let t = c.args.row.now in
-    let e = c.from_residual-in_err-rfind.ensures in
-    record {
-      place = e ∙ sym (right_none d t _ _ c.in_ok-end.ensures.place (none_front d t _ c.in_err-rfind.ensures.meaning));
-      here = MatchOption-from_none _ _ e;
-    }
-
-pub returns : goal.returns
-returns g c =
-    let d = g.F.Searcher.delimiter c.args.finder.now in
-    let t = c.args.row.now in
-    let n = prior_front d t _ _ c.in_ok-rfind.ensures.meaning in
-    record { place = sym (right_here d t _ _ _ c.in_ok-end.ensures.place n); here = n.here }
+pub returns-clause-place : goal.returns-clause-place
+returns-clause-place g c = right_at (g.F.Searcher.delimiter c.args.finder.now) c.args.row.now _ _ c.rfind.result c.in_ok-end.ensures.place c.rfind.ensures.meaning

@@ -1,18 +1,14 @@
 use Rattle.std.proofs.Common.{◌+◌, ◌-◌, sym, ◌∙◌, arith}
-use Rattle.std.proofs.lemmas.Option.{MatchOption-from_none}
 use Rattle.split.proofs.Parts.{prior_front, none_front}
-use Rattle.split.proofs.Walks.{before_done, before_more, before_nothing}
+use Rattle.split.proofs.Walks.{before_more, before_nothing}
 use Rattle.split.proofs.walk.before_occurrences.Goals as goal
 
-pub returns-in_err-end : goal.returns-in_err-end
-returns-in_err-end g c =
+pub returns-in_err-end-clause-place : goal.returns-in_err-end-clause-place
+returns-in_err-end-clause-place g c =
     let d = g.F.Searcher.delimiter c.args.finder.now in
     let t = c.args.row.now in
     let e = c.from_residual.ensures in
-    record {
-      within = MatchOption-from_none _ _ e;
-      place = e ∙ sym (c.loop-passed.invariant.1 ∙ before_nothing d t _ _ (c.args.n - (c.loop-passed._passed + 1)) (none_front d t _ c.in_err-end.ensures.meaning) (omega arith));
-    }
+    e ∙ sym (c.loop-passed.invariant.1 ∙ before_nothing d t _ _ (c.args.n - (c.loop-passed._passed + 1)) (none_front d t _ c.in_err-end.ensures.meaning) (omega arith))
 
 pub loop-passed-preserved : goal.loop-passed-preserved
 loop-passed-preserved g c =
@@ -21,9 +17,3 @@ loop-passed-preserved g c =
     let n = prior_front d t _ _ c.in_ok-end.ensures.meaning in
     let left = c.args.n - (c.loop-passed._passed + 1) in
     (omega (arith, n.before), c.loop-passed.invariant.1 ∙ before_more d t _ _ _ left n (omega arith))
-
-pub returns : goal.returns
-returns g c =
-    let d = g.F.Searcher.delimiter c.args.finder.now in
-    let t = c.args.row.now in
-    record { within = c.loop-passed.invariant.0; place = sym (c.loop-passed.invariant.1 ∙ before_done d t _ _ (omega arith)) }
