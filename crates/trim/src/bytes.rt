@@ -9,6 +9,7 @@ pub fn leading_bytes(bytes: &[u8], byte: u8) -> usize
     bytes.iter().take_while(|b| **b == byte).count()
 }
 
+// The twin of `leading_bytes`: the two differ in the end of the text, not in a type, a size or a constant.
 /// How many bytes at the end are `byte`.
 pub fn trailing_bytes(bytes: &[u8], byte: u8) -> usize
     ensures { result ≡ suffix_len (λ b. nat_eq b byte) bytes.now }

@@ -18,6 +18,7 @@ pub fn leading_chars(text: &str, set: &str) -> usize
     text.len() - text.trim_start_matches(|c: char| holds(set, c)).len()
 }
 
+// The twin of `leading_chars`: the two differ in the end of the text, not in a type, a size or a constant.
 /// How many bytes the longest tail of `text` takes whose characters are all in `set`.
 pub fn trailing_chars(text: &str, set: &str) -> usize
     ensures { result ≡ tail_size set.now text.now }

@@ -16,6 +16,7 @@ pub fn leading(text: &str, set: &str) -> usize
     }
 }
 
+// The twin of `leading`: the two differ in the end of the text, not in a type, a size or a constant.
 /// How many bytes the longest tail of `text` takes whose characters are all in `set`.
 pub fn trailing(text: &str, set: &str) -> usize
     ensures { result ≡ tail_size set.now text.now }
