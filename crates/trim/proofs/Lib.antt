@@ -3,5 +3,6 @@ mod Heads
 mod Tails
 mod Seams
 mod OneByte
+mod Matches
 mod Longest
 pub mod Rules

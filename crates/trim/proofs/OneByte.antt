@@ -4,7 +4,7 @@ use lib.Utf8.{encode, encodes}
 use Rattle.std.specs.Char.{char_set_contains, len_utf8}
 use Rattle.std.specs.List.{prefix_len, suffix_len}
 use Rattle.std.specs.Str.{chars}
-use Rattle.std.proofs.lemmas.List.{append-nil, reverse-append, reverse-reverse, get_or-reverse, get_or-append-add, length_push, nil_from_length}
+use Rattle.std.proofs.lemmas.List.{append-nil, reverse-append, reverse-reverse, get_or-reverse, get_or-append-add}
 use Rattle.std.proofs.lemmas.Bool.{cases_eq, cases_lt, eq-eqb, ne_eqb, or_left, or_from, le-ltb}
 use Rattle.std.proofs.lemmas.Str.{encode_ascii, encodes-chars, chars_from_encodes, length-encode, len_utf8_bounds, byte_from_char, char_from_byte, inside_one}
 use Rattle.trim.specs.Ends.{longest_head, longest_tail, head_size, tail_size}
@@ -125,17 +125,3 @@ pub tail_size_one : (set row : List ℕ) → IsUtf8 set → IsUtf8 row → lengt
 tail_size_one [] row s u n = absurd (omega arith)
 tail_size_one (b ∷ []) row s u n = tail_of_byte b row s u
 tail_size_one (b ∷ x ∷ set) row s u n = absurd (omega arith)
-
--- a turn of the loop from the end, at the byte x
-pub bytes_grow : (b x : ℕ) (bytes rest : List ℕ) → bytes ≡ rest ++ x ∷ [] → x ≡ b → (length bytes ≡ length rest + 1) × (suffix_len (λ y. eqb y b) bytes ≡ 1 + suffix_len (λ y. eqb y b) rest)
-bytes_grow b x bytes rest e h =
-    let q = λ (y : ℕ). eqb y b in
-    (ap length e ∙ length_push rest x, ap (suffix_len q) e ∙ (ending_push q rest x ∙ ap (λ t. cond t (1 + suffix_len q rest) 0) (eq-eqb x b h)))
-
-pub bytes_stop : (b x : ℕ) (bytes rest : List ℕ) → bytes ≡ rest ++ x ∷ [] → (x ≡ b → ⊥) → suffix_len (λ y. eqb y b) bytes ≡ 0
-bytes_stop b x bytes rest e h =
-    let q = λ (y : ℕ). eqb y b in
-    ap (suffix_len q) e ∙ (ending_push q rest x ∙ ap (λ t. cond t (1 + suffix_len q rest) 0) (ne_eqb x b h))
-
-pub no_bytes : (b : ℕ) (bytes : List ℕ) → length bytes ≡ 0 → suffix_len (λ y. eqb y b) bytes ≡ 0
-no_bytes b bytes h = ap (suffix_len (λ (y : ℕ). eqb y b)) (nil_from_length bytes h)

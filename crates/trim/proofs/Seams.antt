@@ -10,7 +10,7 @@ use Rattle.std.proofs.lemmas.Str.{encodes-append, encodes-chars, scalars-chars, 
 use Rattle.trim.specs.Ends.{head_size, tail_size}
 use Rattle.trim.specs.Trim.{removed_head, without_head, removed_tail, without_tail, trimmed}
 
-scalars_parts : (xs ys : List ℕ) → scalars (xs ++ ys) ≡ true → (scalars xs ≡ true) × (scalars ys ≡ true)
+pub scalars_parts : (xs ys : List ℕ) → scalars (xs ++ ys) ≡ true → (scalars xs ≡ true) × (scalars ys ≡ true)
 scalars_parts [] ys h = (refl, h)
 scalars_parts (c ∷ xs) ys h =
     let a = and_parts (scalar c) (scalars (xs ++ ys)) h in

@@ -23,7 +23,7 @@ encode_leads c = go (ltb c 128) (ltb c 2048) (ltb c 65536) refl
     go false false true e = (omega arith, λ h. omega arith)
     go false false false e = (omega arith, λ h. omega arith)
 
-utf8_before_char : (text rest : List ℕ) (c : ℕ) → IsUtf8 text → text ≡ rest ++ encode c → IsUtf8 rest
+pub utf8_before_char : (text rest : List ℕ) (c : ℕ) → IsUtf8 text → text ≡ rest ++ encode c → IsUtf8 rest
 unfolding Leads
 utf8_before_char text rest c u e =
     let l = encode_leads c in
@@ -55,7 +55,7 @@ longest_tail_out p cs c h =
     let e : suffix_len p (cs ++ c ∷ []) ≡ 0 = ending_push p cs c ∙ ap (λ b. cond b (1 + suffix_len p cs) 0) h in
     drop_all _ (cs ++ c ∷ []) (omega (arith, e))
 
-tail_size_in : (set text rest : List ℕ) (c : ℕ) → IsUtf8 text → text ≡ rest ++ encode c → char_set_contains (chars set) c ≡ true → tail_size set text ≡ tail_size set rest + length (encode c)
+pub tail_size_in : (set text rest : List ℕ) (c : ℕ) → IsUtf8 text → text ≡ rest ++ encode c → char_set_contains (chars set) c ≡ true → tail_size set text ≡ tail_size set rest + length (encode c)
 unfolding tail_size
 tail_size_in set text rest c u e h =
     let p = char_set_contains (chars set) in
@@ -64,20 +64,12 @@ tail_size_in set text rest c u e h =
     ∙ (ap (λ cs. length (encodes cs)) (longest_tail_in p (chars rest) c h)
     ∙ (ap length (encodes_push tail c) ∙ length-append (encodes tail) (encode c)))
 
-tail_size_out : (set text rest : List ℕ) (c : ℕ) → IsUtf8 text → text ≡ rest ++ encode c → char_set_contains (chars set) c ≡ false → tail_size set text ≡ 0
+pub tail_size_out : (set text rest : List ℕ) (c : ℕ) → IsUtf8 text → text ≡ rest ++ encode c → char_set_contains (chars set) c ≡ false → tail_size set text ≡ 0
 unfolding tail_size
 tail_size_out set text rest c u e h =
     let p = char_set_contains (chars set) in
     ap (λ cs. length (encodes (longest_tail p cs))) (decodes_before_char text rest c u e)
     ∙ ap (λ cs. length (encodes cs)) (longest_tail_out p (chars rest) c h)
-
--- a turn of the loop, where the test answered `found` of the character c
-pub tail_grows : (set text rest : List ℕ) (c : ℕ) (found : Bool) → IsUtf8 text → text ≡ rest ++ encode c → found ≡ char_set_contains (chars set) c → found ≡ true → IsUtf8 rest × (length text ≡ length rest + length (encode c)) × (tail_size set text ≡ tail_size set rest + length (encode c))
-tail_grows set text rest c found u e is h =
-    (utf8_before_char text rest c u e, ap length e ∙ length-append rest (encode c), tail_size_in set text rest c u e (sym is ∙ h))
-
-pub tail_stops : (set text rest : List ℕ) (c : ℕ) (found : Bool) → IsUtf8 text → text ≡ rest ++ encode c → found ≡ char_set_contains (chars set) c → found ≡ false → tail_size set text ≡ 0
-tail_stops set text rest c found u e is h = tail_size_out set text rest c u e (sym is ∙ h)
 
 pub tail_of_nothing : (set text : List ℕ) → length text ≡ 0 → tail_size set text ≡ 0
 unfolding tail_size

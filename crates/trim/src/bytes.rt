@@ -6,24 +6,13 @@ ghost use Rattle.std.specs.List.{prefix_len, suffix_len};
 pub fn leading_bytes(bytes: &[u8], byte: u8) -> usize
     ensures { result ≡ prefix_len (λ b. nat_eq b byte) bytes.now }
 {
-    for (i, b) in bytes.iter().enumerate() {
-        if *b != byte {
-            return i;
-        }
-    }
-    bytes.len()
+    bytes.iter().take_while(|b| **b == byte).count()
 }
 
+// The twin of `leading_bytes`: the two differ in the end of the text, not in a type, a size or a constant.
 /// How many bytes at the end are `byte`.
 pub fn trailing_bytes(bytes: &[u8], byte: u8) -> usize
     ensures { result ≡ suffix_len (λ b. nat_eq b byte) bytes.now }
 {
-    let mut count = 0;
-    for b in bytes.iter().rev() {
-        if *b != byte {
-            break;
-        }
-        count += 1;
-    }
-    count
+    bytes.iter().rev().take_while(|b| **b == byte).count()
 }

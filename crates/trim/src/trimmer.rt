@@ -3,41 +3,43 @@ ghost use Rattle.std.specs.Prelude.{◌≡◌, Bool, true, false, [], ◌∷◌}
 ghost use Rattle.trim.specs.Rule.{Trims, Determined, Untouched, Emptied, Anchored};
 ghost use Rattle.trim.specs.Trim.{trimmed};
 
-use crate::sides::trim_sides;
+use crate::sides::{leading, trailing};
 
 /// Which ends of a row lose the characters of a set.
 pub trait Trimmer {
+    ghost LEFT: { Bool };
+
     const LEFT: bool;
+
+    ghost RIGHT: { Bool };
 
     const RIGHT: bool;
 
-    // The constants again, since a contract names a ghost member and no constant.
-    ghost left: { Bool };
-
-    ghost right: { Bool };
-
-    /// Whether the start is trimmed.
-    fn on_left() -> bool
-        ensures { result ≡ left };
-
-    /// Whether the end is trimmed.
-    fn on_right() -> bool
-        ensures { result ≡ right };
-
     /// What remains of `input`, and its place there in bytes, without the characters of `pattern`.
     fn trim<'a>(input: &'a str, pattern: &str) -> (&'a str, u64)
-        ensures answer { (result.0.now, result.1) ≡ trimmed left right pattern.now input.now }
-        ensures rule { Trims left right pattern.now input.now result.0.now result.1 }
+        ensures answer { (result.0.now, result.1) ≡ trimmed LEFT RIGHT pattern.now input.now }
+        ensures rule { Trims LEFT RIGHT pattern.now input.now result.0.now result.1 }
     {
-        trim_sides(Self::on_left(), Self::on_right(), input, pattern)
+        let start = if Self::LEFT {
+            leading(input, pattern)
+        } else {
+            0
+        };
+        let rest = &input[start..];
+        let tail = if Self::RIGHT {
+            trailing(rest, pattern)
+        } else {
+            0
+        };
+        (&rest[0..rest.len() - tail], start as u64)
     }
 
     /// The same where no characters are given, which means a space.
     fn trim_spaces<'a>(input: &'a str) -> (&'a str, u64)
-        ensures answer { (result.0.now, result.1) ≡ trimmed left right (32 ∷ []) input.now }
-        ensures rule { Trims left right (32 ∷ []) input.now result.0.now result.1 }
+        ensures answer { (result.0.now, result.1) ≡ trimmed LEFT RIGHT (32 ∷ []) input.now }
+        ensures rule { Trims LEFT RIGHT (32 ∷ []) input.now result.0.now result.1 }
     {
-        trim_sides(Self::on_left(), Self::on_right(), input, " ")
+        Self::trim(input, " ")
     }
 }
 
@@ -46,21 +48,13 @@ pub trait Trimmer {
 pub struct TrimLeft;
 
 impl Trimmer for TrimLeft {
+    ghost LEFT = { true };
+
     const LEFT: bool = true;
 
+    ghost RIGHT = { false };
+
     const RIGHT: bool = false;
-
-    ghost left = { true };
-
-    ghost right = { false };
-
-    fn on_left() -> bool {
-        Self::LEFT
-    }
-
-    fn on_right() -> bool {
-        Self::RIGHT
-    }
 }
 
 /// Trims the end.
@@ -68,21 +62,13 @@ impl Trimmer for TrimLeft {
 pub struct TrimRight;
 
 impl Trimmer for TrimRight {
+    ghost LEFT = { false };
+
     const LEFT: bool = false;
 
+    ghost RIGHT = { true };
+
     const RIGHT: bool = true;
-
-    ghost left = { false };
-
-    ghost right = { true };
-
-    fn on_left() -> bool {
-        Self::LEFT
-    }
-
-    fn on_right() -> bool {
-        Self::RIGHT
-    }
 }
 
 /// Trims the start and then the end.
@@ -90,30 +76,20 @@ impl Trimmer for TrimRight {
 pub struct TrimBoth;
 
 impl Trimmer for TrimBoth {
+    ghost LEFT = { true };
+
     const LEFT: bool = true;
 
+    ghost RIGHT = { true };
+
     const RIGHT: bool = true;
-
-    ghost left = { true };
-
-    ghost right = { true };
-
-    fn on_left() -> bool {
-        Self::LEFT
-    }
-
-    fn on_right() -> bool {
-        Self::RIGHT
-    }
 }
 
 /// The rule leaves one answer. An empty set removes nothing, both ends together remove the whole of a row that is made
 /// of the set's characters, and a trim of the end alone keeps the place 0.
-pub fn trim_laws() -> u8
+pub fn trim_laws()
     ensures determined { Determined }
     ensures untouched { Untouched }
     ensures emptied { Emptied }
     ensures anchored { Anchored }
-{
-    0
-}
+{}
