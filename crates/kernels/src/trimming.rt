@@ -82,7 +82,7 @@ impl<'a, D> Characters<'a, D> {
 
 /// What remains of a row, and its place there.
 fn trim_row<'t, T: Trimmer>(row: &'t str, set: &str) -> (&'t str, u64)
-    ensures answer { part result ≡ trimmed T.left T.right set.now row.now }
+    ensures answer { part result ≡ trimmed T.LEFT T.RIGHT set.now row.now }
     ensures within { result.0.now ≡ take (length result.0.now) (drop result.1 row.now) }
 {
     T::trim(row, set)
@@ -97,7 +97,7 @@ pub struct Trim<'a, S, D, T> {
 }
 
 impl<'a, S: Source<'a>, D: Source<'a>, T: Trimmer> Call<'a> for Trim<'a, S, D, T> {
-    ghost request = { of_trim S.Source.listed D.Source.listed T.Trimmer.left T.Trimmer.right };
+    ghost request = { of_trim S.Source.listed D.Source.listed T.Trimmer.LEFT T.Trimmer.RIGHT };
 
     fn start(&self) -> Result<(), Fault> {
         self.window.check(self.window.source.rows())?;
@@ -136,5 +136,5 @@ impl<'a, S: Source<'a>, D: Source<'a>, T: Trimmer + Copy> Divisible<'a> for Trim
         self.window.ends() && self.characters.is_cuttable(self.window.rows)
     }
 
-    ghost divides = { divides_trim S.Source.listed D.Source.listed T.Trimmer.left T.Trimmer.right };
+    ghost divides = { divides_trim S.Source.listed D.Source.listed T.Trimmer.LEFT T.Trimmer.RIGHT };
 }

@@ -16,4 +16,4 @@ lies left right set row text place t =
 pub returns : goal.returns
 returns g c =
     let e = c.trim.ensures in
-    record { answer = e.answer; within = lies g.T.Trimmer.left g.T.Trimmer.right c.args.set.now c.args.row.now _ _ e.rule }
+    record { answer = e.answer; within = lies g.T.Trimmer.LEFT g.T.Trimmer.RIGHT c.args.set.now c.args.row.now _ _ e.rule }
