@@ -1,4 +1,3 @@
 pub mod Standing
 pub mod Nearest
 pub mod Single
-pub mod Windows

@@ -33,19 +33,39 @@ impl<'a> Searcher for Plain<'a> {
 
     fn find(&self, text: &[u8]) -> Option<usize> {
         let delimiter = self.delimiter.as_bytes();
-        if delimiter.is_empty() {
+        let m = delimiter.len();
+        if m == 0 || text.len() < m {
             return None;
         }
-        text.windows(delimiter.len())
-            .position(|part| part == delimiter)
+        let last = text.len() - m;
+        // A rule of the project wants this form: a labelled loop over places, left at the first byte that differs.
+        'places: for at in 0..=last {
+            for k in 0..m {
+                if text[at + k] != delimiter[k] {
+                    continue 'places;
+                }
+            }
+            return Some(at);
+        }
+        None
     }
 
     fn rfind(&self, text: &[u8]) -> Option<usize> {
         let delimiter = self.delimiter.as_bytes();
-        if delimiter.is_empty() {
+        let m = delimiter.len();
+        if m == 0 || text.len() < m {
             return None;
         }
-        text.windows(delimiter.len())
-            .rposition(|part| part == delimiter)
+        let last = text.len() - m;
+        // The same form, for the same reason.
+        'places: for at in (0..=last).rev() {
+            for k in 0..m {
+                if text[at + k] != delimiter[k] {
+                    continue 'places;
+                }
+            }
+            return Some(at);
+        }
+        None
     }
 }

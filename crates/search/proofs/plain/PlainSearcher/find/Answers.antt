@@ -1,20 +1,23 @@
-use Rattle.std.proofs.Common.{length, None, rules}
-use borrow.Author.Tests.{tests}
-use Rattle.std.specs.Iterator.Runs.{IsWindowsRun}
-use Rattle.search.proofs.Nearest.{lowest_is}
-use Rattle.search.proofs.Windows.{windows_lowest}
+use Rattle.std.proofs.Common.{⊎_elim, arith}
+use Rattle.search.proofs.Nearest.{lowest_for}
+use Rattle.search.proofs.Standing.{none_through}
 use Rattle.search.proofs.plain.PlainSearcher.find.Goals as goal
 
-pub returns-then-is_empty : goal.returns-then-is_empty
-returns-then-is_empty c =
-    let m = lowest_is c.args.self.now.delimiter.now c.args.text.now None (λ q s. search rules) in
+-- an empty delimiter, and one longer than the text
+pub returns-then-m-eq0 : goal.returns-then-m-eq0
+returns-then-m-eq0 c =
+    let m = lowest_for _ _ _ _ c.as_bytes-delimiter.ensures.value (λ q s. ⊎_elim (λ z. omega (arith, z, s.some)) (λ z. omega (arith, z.1, s.within)) c.then-m-eq0.either) in
     record { place = m.0; meaning = m.1 }
 
-pub returns : goal.returns
-returns c =
-    let d = c.args.self.now.delimiter.now in
-    let t = c.args.text.now in
-    let s = c.position.ensures.runs in
-    let w : IsWindowsRun s.0 (length d) t = search rules in
-    let m = lowest_is _ _ _ (windows_lowest s.0 d t c.as_bytes-delimiter.result _ _ _ (search rules) (λ a r f k. search rules) (λ x k. search (rules, tests)) (λ x k e. search (rules, tests)) c.position.result w s.2) in
+pub places-preserved : goal.places-preserved
+places-preserved c = λ q h s. none_through _ _ _ _ c.places.invariant c.loop-k-test.true c.if-text-at.true q (omega arith) s
+
+pub returns-in-places : goal.returns-in-places
+returns-in-places c =
+    let m = lowest_for _ _ _ _ c.as_bytes-delimiter.ensures.value (record { some = omega arith; within = omega arith; reads = λ k h. c.loop-k.invariant k (omega arith) }, c.places.invariant) in
+    record { place = m.0; meaning = m.1 }
+
+pub returns-then-text-at : goal.returns-then-text-at
+returns-then-text-at c =
+    let m = lowest_for _ _ _ _ c.as_bytes-delimiter.ensures.value (λ q s. none_through _ _ _ _ c.places.invariant c.loop-k-test.true c.if-text-at.true q (omega (arith, s.within)) s) in
     record { place = m.0; meaning = m.1 }
