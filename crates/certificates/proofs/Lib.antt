@@ -1,1 +1,2 @@
 mod Feeds
+mod Digits

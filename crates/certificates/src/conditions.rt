@@ -13,6 +13,7 @@ pub struct Condition<'t> {
     pub surface: &'t str,
     /// Minutes.
     pub warm_up: &'t str,
+    // A flag beside the fields, and not a variant that holds them: they are printed of a line that is not whole too.
     /// Whether the line has these three fields behind its letter, and no more.
     pub whole: bool,
 }
@@ -38,17 +39,16 @@ impl Condition<'_> {
         if !self.whole {
             return Err(Refusal::FieldCount);
         }
-        match numeral(self.temperature) {
-            Some(150..=300) => {}
-            _ => return Err(Refusal::Temperature),
+        if !matches!(numeral(self.temperature), Some(150..=300)) {
+            return Err(Refusal::Temperature);
         }
         if self.surface != "dry" {
             return Err(Refusal::Surface);
         }
-        match numeral(self.warm_up) {
-            Some(20..=999) => Ok(()),
-            _ => Err(Refusal::WarmUp),
+        if !matches!(numeral(self.warm_up), Some(20..=999)) {
+            return Err(Refusal::WarmUp);
         }
+        Ok(())
     }
 }
 

@@ -15,19 +15,16 @@ pub enum Kind {
     UnknownLine,
 }
 
-impl Kind {
-    /// The kind of a line, by its first field.
-    pub fn of(letter: &str) -> Kind
-        ensures { result ≡ kind_by letter.now }
-    {
-        if letter == "C" {
-            Kind::ConditionLine
-        } else if letter == "A" {
-            Kind::AxleLine
-        } else if letter == "E" {
-            Kind::EndLine
-        } else {
-            Kind::UnknownLine
+/// The kind of a line, by its first field.
+impl From<&str> for Kind {
+    ghost from_gives = { λ letter kind. kind ≡ kind_by letter.now };
+
+    fn from(letter: &str) -> Kind {
+        match letter {
+            "C" => Kind::ConditionLine,
+            "A" => Kind::AxleLine,
+            "E" => Kind::EndLine,
+            _ => Kind::UnknownLine,
         }
     }
 }

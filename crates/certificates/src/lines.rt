@@ -23,12 +23,7 @@ impl<'a> Lines<'a> {
 fn line_feed(bytes: &[u8]) -> Option<usize>
     ensures { FirstFeed bytes.now result }
 {
-    for (i, b) in bytes.iter().enumerate() {
-        if *b == b'\n' {
-            return Some(i);
-        }
-    }
-    None
+    bytes.iter().position(|byte| *byte == b'\n')
 }
 
 impl<'a> Iterator for Lines<'a> {
@@ -60,13 +55,8 @@ impl<'a> Iterator for Lines<'a> {
 pub fn without_return(line: &[u8]) -> &[u8]
     ensures { result.now ≡ without_return line.now }
 {
-    if line.is_empty() {
-        return line;
-    }
-    let last = line.len() - 1;
-    if line[last] == b'\r' {
-        &line[0..last]
-    } else {
-        line
+    match line {
+        [rest @ .., b'\r'] => rest,
+        _ => line,
     }
 }

@@ -6,28 +6,26 @@ ghost use Rattle.certificates.specs.Numerals.{digits_behind, numeral_of, starts_
 fn with_digit(value: u16, byte: u8) -> Option<u16>
     ensures { result ≡ with_digit value byte }
 {
-    if byte < b'0' || byte > b'9' || value >= 100 {
-        return None;
+    match byte {
+        b'0'..=b'9' if value < 100 => Some(value * 10 + u16::from(byte - b'0')),
+        _ => None,
     }
-    Some(value * 10 + u16::from(byte - b'0'))
 }
 
 /// The number that the digits make.
 fn digits_value(digits: &[u8]) -> Option<u16>
     ensures { result ≡ digits_behind (Some 0) digits.now }
 {
-    let mut value = 0;
-    for digit in digits {
-        value = with_digit(value, *digit)?;
-    }
-    Some(value)
+    digits
+        .iter()
+        .try_fold(0, |value, digit| with_digit(value, *digit))
 }
 
 /// Some digit, and no zero before another.
 fn starts_well(digits: &[u8]) -> bool
     ensures { result ≡ starts_well digits.now }
 {
-    digits.len() == 1 || digits.len() > 1 && digits[0] != b'0'
+    !matches!(digits, [] | [b'0', _, ..])
 }
 
 /// The number that a field writes; nothing for any other field.

@@ -22,7 +22,7 @@ fn field(line: &str, position: i64) -> Result<&str, Fault>
 pub fn line_kind(line: &str) -> Result<Kind, Fault>
     ensures { result ≡ Ok (kind_by (nth_field line.now 0)) }
 {
-    Ok(Kind::of(field(line, 1)?))
+    Ok(Kind::from(field(line, 1)?))
 }
 
 /// The fields of a condition line.

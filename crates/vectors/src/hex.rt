@@ -1,6 +1,21 @@
 //! Bytes in hexadecimal, two lower-case digits a byte; `-` stands for none.
-use std::alloc::{AllocError, Global};
+use std::alloc::{AllocError, AllocFailed, Global};
 
+/// Why no bytes were read.
+#[derive(Clone, Copy, PartialEq, Eq, Debug)]
+pub enum HexError {
+    /// The field writes no bytes.
+    NoBytes,
+    Memory(AllocError),
+}
+
+impl<T: Drop> From<AllocFailed<T>> for HexError {
+    fn from(failed: AllocFailed<T>) -> HexError {
+        HexError::Memory(AllocError::from(failed))
+    }
+}
+
+// `char::to_digit` reads upper-case digits too.
 /// The value of a digit.
 fn nibble(digit: u8) -> Option<u8> {
     match digit {
@@ -12,26 +27,23 @@ fn nibble(digit: u8) -> Option<u8> {
 
 /// The byte that two digits write.
 fn byte(high: u8, low: u8) -> Option<u8> {
-    let high = nibble(high)?;
-    let low = nibble(low)?;
-    high.checked_mul(16)?.checked_add(low)
+    Some(nibble(high)? << 4 | nibble(low)?)
 }
 
-/// The bytes that a field writes; nothing where it is no such field.
-pub fn hex(heap: Global, field: &str) -> Result<Option<Vec<u8>>, AllocError> {
+/// The bytes that a field writes.
+pub fn hex(heap: Global, field: &str) -> Result<Vec<u8>, HexError> {
     let mut bytes = Vec::new(heap);
     if field == "-" {
-        return Ok(Some(bytes));
+        return Ok(bytes);
     }
-    let digits = field.as_bytes();
-    if digits.is_empty() || digits.len() % 2 != 0 {
-        return Ok(None);
+    if field.is_empty() {
+        return Err(HexError::NoBytes);
     }
-    for pair in digits.chunks_exact(2) {
-        match byte(pair[0], pair[1]) {
-            Some(b) => bytes.push(b)?,
-            None => return Ok(None),
-        }
+    for pair in field.as_bytes().chunks(2) {
+        let [high, low] = pair else {
+            return Err(HexError::NoBytes);
+        };
+        bytes.push(byte(*high, *low).ok_or(HexError::NoBytes)?)?;
     }
-    Ok(Some(bytes))
+    Ok(bytes)
 }

@@ -14,6 +14,7 @@ impl Tally {
     pub fn new() -> Self
         ensures { counts result ≡ none }
     {
+        // `Default` is not derived: the derive is refused for a struct with a ghost field.
         Tally {
             lines: 0,
             certified: 0,
@@ -29,10 +30,7 @@ impl Tally {
     pub fn count(&mut self, outcome: Outcome) -> Result<(), TooManyLines>
         ensures { counts self.new ≡ (if is_ok result then counted outcome (counts self.old) else counts self.old) }
     {
-        if self.lines == u64::MAX {
-            return Err(TooManyLines);
-        }
-        self.lines += 1;
+        self.lines = self.lines.checked_add(1).ok_or(TooManyLines)?;
         match outcome {
             Outcome::Certified => self.certified += 1,
             Outcome::Refused => self.refused += 1,

@@ -1,6 +1,0 @@
-use Rattle.std.proofs.Common.{rules}
-use Rattle.std.proofs.lemmas.Slice.Eq.{bytes_eq-Decides}
-use Rattle.certificates.proofs.kinds.Kind.of.Goals as goal
-
-pub returns-else-eq-3 : goal.returns-else-eq-3
-returns-else-eq-3 c = search (rules, bytes_eq-Decides)

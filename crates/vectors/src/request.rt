@@ -1,0 +1,81 @@
+//! A request and its known answer, as a line has them.
+use crate::hex::{HexError, hex};
+use requests::{Operation, answer};
+use std::alloc::{AllocError, Global};
+use text::open_text;
+
+/// Why a request was not answered as the line has it.
+#[derive(Clone, Copy, PartialEq, Eq, Debug)]
+pub enum Difference {
+    /// It has not six fields between tabs, or one that cannot be read.
+    NoRequest,
+    /// It was refused.
+    Fault,
+    Bytes,
+    Place,
+    /// There was no memory to read it.
+    Memory(AllocError),
+}
+
+impl From<AllocError> for Difference {
+    fn from(error: AllocError) -> Difference {
+        Difference::Memory(error)
+    }
+}
+
+impl From<HexError> for Difference {
+    fn from(error: HexError) -> Difference {
+        match error {
+            HexError::NoBytes => Difference::NoRequest,
+            HexError::Memory(error) => Difference::Memory(error),
+        }
+    }
+}
+
+/// What is asked, and what the answer has to be.
+#[derive(Drop)]
+pub struct Request {
+    operation: Operation,
+    row: Vec<u8>,
+    operand: Vec<u8>,
+    number: i64,
+    bytes: Vec<u8>,
+    /// A line with a place below 0 leaves it open.
+    place: Option<u64>,
+}
+
+impl Request {
+    /// The request of a line.
+    pub fn read(heap: Global, line: &[u8]) -> Result<Request, Difference> {
+        let line = open_text(line).map_err(|_| Difference::NoRequest)?;
+        let fields: Vec<&str> = line.split('\t').collect(heap)?;
+        let [name, row, operand, number, bytes, place] = fields.as_slice() else {
+            return Err(Difference::NoRequest);
+        };
+        let place: i64 = place.parse().map_err(|_| Difference::NoRequest)?;
+        Ok(Request {
+            operation: name.parse().map_err(|_| Difference::NoRequest)?,
+            row: hex(heap, row)?,
+            operand: hex(heap, operand)?,
+            number: number.parse().map_err(|_| Difference::NoRequest)?,
+            bytes: hex(heap, bytes)?,
+            place: u64::try_from(place).ok(),
+        })
+    }
+
+    /// Answers the request, and compares.
+    pub fn replay(&self) -> Result<(), Difference> {
+        let row = open_text(self.row.as_slice()).map_err(|_| Difference::NoRequest)?;
+        let operand = open_text(self.operand.as_slice()).map_err(|_| Difference::NoRequest)?;
+        let (part, at) = answer(self.operation, row, operand, self.number).map_err(
+            |_| Difference::Fault,
+        )?;
+        if part.as_bytes() != self.bytes.as_slice() {
+            return Err(Difference::Bytes);
+        }
+        if self.place.is_some_and(|place| place != at) {
+            return Err(Difference::Place);
+        }
+        Ok(())
+    }
+}
