@@ -46,4 +46,4 @@ one_byte_is x d e = go (eqb (length d) 1) e
   where
     go : (b : Bool) → Some x ≡ cond b (Some d) None → x ≡ d
     go true f = cc
-    go false f = let z : ◌≡◌ {A = ℕ} 0 1 = cc in absurd (omega arith)
+    go false f = cc

@@ -10,7 +10,7 @@ both None p q = absurd q
 both (Some x) p q = (x, p, q)
 
 some_and : {A : Type 0} (P : A → Type 0) (o : Option A) (y : A) → option_map (λ y. y) o ≡ Some y → IfSome o P → IsSomeAnd o P
-some_and P None y e p = let z : ◌≡◌ {A = ℕ} 0 1 = cc in absurd (omega arith)
+some_and P None y e p = cc
 some_and P (Some x) y e p = p
 
 -- `any` is some slice. The test says of each window whether it is d, and `Keeps` that a call of it leaves it as it was.
