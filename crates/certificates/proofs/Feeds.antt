@@ -1,7 +1,7 @@
 -- The first line of an upload, and the lines after it.
 use Rattle.std.proofs.Common.{◌≡◌, ℕ, zero, suc, ◌+◌, ◌-◌, ◌<◌, Bool, false, cond, eqb, List, [], ◌∷◌, length, get_or, take, drop, sym, ap, ◌∙◌, le_of_suc-le-suc, add-one, arith, eq-eqb, ne_eqb}
 use native.Mathlib.Nat.{sub-zero}
-use Rattle.std.proofs.lemmas.List.{take_rest, drop_all}
+use Rattle.std.proofs.lemmas.List.{take_rest}
 use Rattle.certificates.specs.Lines.{before, lines}
 
 -- up to the first line feed
@@ -21,11 +21,8 @@ line_last (b ∷ x ∷ bs) h none =
     ap (λ (t : Bool). cond t ([] ∷ lines (x ∷ bs)) (before b (lines (x ∷ bs)))) (ne_eqb b 10 (λ z. none 0 (omega arith) z))
     ∙ ap (before b) (line_last (x ∷ bs) (omega arith) (λ q l z. none (suc q) (omega arith) z))
 
--- as the code has the parts
+-- up to it, as the code has the parts
 pub line_parts : (bs : List ℕ) (p : ℕ) → (p < length bs) × (get_or bs p 0 ≡ 10) × ((q : ℕ) → q < p → get_or bs q 0 ≡ 10 → ⊥) → lines bs ≡ take (p - 0) bs ∷ lines (take (length bs - (p + 1)) (drop (p + 1) bs))
 line_parts bs p f =
     line_at bs p f.0 f.1 f.2
     ∙ (ap (λ n. take n bs ∷ lines (drop (suc p) bs)) (sym (sub-zero p)) ∙ ap (λ l. take (p - 0) bs ∷ lines l) (ap (λ n. drop n bs) (sym (add-one p)) ∙ sym (take_rest bs (p + 1))))
-
-pub line_whole : (bs : List ℕ) → 0 < length bs → ((q : ℕ) → q < length bs → get_or bs q 0 ≡ 10 → ⊥) → lines bs ≡ bs ∷ lines (take (length bs - length bs) (drop (length bs) bs))
-line_whole bs h none = line_last bs h none ∙ ap (λ l. bs ∷ lines l) (sym (take_rest bs (length bs) ∙ drop_all (length bs) bs (omega arith)))

@@ -44,7 +44,7 @@ impl<'a> Iterator for Lines<'a> {
                 Some(&rest[0..end])
             }
             None => {
-                self.rest = &rest[rest.len()..];
+                self.rest = &[];
                 Some(rest)
             }
         }

@@ -16,9 +16,12 @@ fn with_digit(value: u16, byte: u8) -> Option<u16>
 fn digits_value(digits: &[u8]) -> Option<u16>
     ensures { result ≡ digits_behind (Some 0) digits.now }
 {
-    digits
-        .iter()
-        .try_fold(0, |value, digit| with_digit(value, *digit))
+    // `try_fold` is no plainer: it is proved by a lemma on its turns, and this loop by its invariant alone.
+    let mut value = 0;
+    for digit in digits {
+        value = with_digit(value, *digit)?;
+    }
+    Some(value)
 }
 
 /// Some digit, and no zero before another.

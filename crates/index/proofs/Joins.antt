@@ -2,7 +2,7 @@
 use Rattle.std.proofs.Common.{◌≡◌, ℕ, zero, suc, ◌+◌, ◌-◌, ◌<◌, ◌≤◌, Bool, false, cond, eqb, List, [], ◌∷◌, ◌++◌, reverse, length, get_or, take, pos, negsuc, Some, None, Option, unwrap_or, sym, refl, ap, ◌∙◌, arith, ne_eqb}
 use native.Mathlib.Nat.{sub-zero}
 use Rattle.std.specs.List.{between, slice_get}
-use Rattle.std.proofs.lemmas.List.{take_all, take_rest, reverse-append}
+use Rattle.std.proofs.lemmas.List.{take-map, take_all, take_rest, reverse-append}
 use Rattle.std.proofs.lemmas.Option.{slice_get_past}
 use Rattle.split.specs.Occurrences.{occurrences, occurrences_back}
 use Rattle.split.specs.Fields.{Part, missing, cut_up, cut_down, left_fields, right_fields, join, texts}
@@ -19,9 +19,7 @@ take_next (f ∷ fs) zero h = refl
 take_next (f ∷ fs) (suc n) h = ap (λ xs. f.0 ∷ xs) (take_next fs n (omega arith))
 
 texts_take : (fs : List Part) (n : ℕ) → texts (take n fs) ≡ take n (texts fs)
-texts_take fs zero = refl
-texts_take [] (suc n) = refl
-texts_take (f ∷ fs) (suc n) = ap (λ xs. f.0 ∷ xs) (texts_take fs n)
+texts_take fs n = sym (take-map (λ (f : Part). f.0) n fs)
 
 first_fields : (d t : List ℕ) (n : ℕ) → n ≤ length (left_fields d t) → fields_to d t n ≡ texts (take n (left_fields d t))
 first_fields d t zero h = refl

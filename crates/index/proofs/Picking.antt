@@ -5,7 +5,6 @@ use Rattle.search.specs.Places.{Stands, Highest}
 use Rattle.split.specs.Occurrences.{occurrences, occurrences_back, end_after, start_before, Next, Prior}
 use Rattle.split.proofs.Scans.{past_none, past_some, before_none, before_some}
 use Rattle.split.proofs.Reaching.{left_places, right_places}
-use Rattle.split.proofs.Seams.{none_some}
 use Rattle.split.proofs.Parts.{prior_front, none_front}
 
 from_there : (ps : List ℕ) (n : ℕ) → slice_get ps n ≡ slice_get (drop n ps) 0
@@ -16,12 +15,12 @@ from_there (p ∷ ps) (suc n) = from_there ps n
 
 module _ (d t : List ℕ) where
   gone_past : (from n : ℕ) (ps : List ℕ) → end_after d from ps n ≡ None → slice_get ps n ≡ None
-  gone_past from zero ps e = absurd (none_some from (sym e))
+  gone_past from zero ps e = cc
   gone_past from (suc n) [] e = refl
   gone_past from (suc n) (p ∷ ps) e = gone_past (p + length d) n ps e
 
   gone_before : (to n : ℕ) (ps : List ℕ) → start_before to ps n ≡ None → slice_get ps n ≡ None
-  gone_before to zero ps e = absurd (none_some to (sym e))
+  gone_before to zero ps e = cc
   gone_before to (suc n) [] e = refl
   gone_before to (suc n) (p ∷ ps) e = gone_before p n ps e
 

@@ -25,7 +25,7 @@ stands_decides d t p =
     (Decides-and _ _ (Decides-ltb 0 (length d)) (Decides-and _ _ (leb-true _ _, le-leb _ _) (bytes_eq-Decides _ _)))
 
 module _ (d t : List ℕ) where
-  moved : (p q : ℕ) → q ≡ p → (Stands d t p → ⊥) → Stands d t q → ⊥
+  pub moved : (p q : ℕ) → q ≡ p → (Stands d t p → ⊥) → Stands d t q → ⊥
   moved p q e never s = never (subst (Stands d t) e s)
 
   absent : (p : ℕ) → stands d t p ≡ false → Stands d t p → ⊥

@@ -18,11 +18,10 @@ impl OneByte {
     pub fn new(delimiter: &str) -> Option<OneByte>
         ensures { option_map (λ s. s.byte ∷ []) result ≡ if_one_byte delimiter.now }
     {
-        let bytes = delimiter.as_bytes();
-        if bytes.len() != 1 {
-            return None;
+        match delimiter.as_bytes() {
+            [byte] => Some(OneByte { byte: *byte }),
+            _ => None,
         }
-        Some(OneByte { byte: bytes[0] })
     }
 }
 

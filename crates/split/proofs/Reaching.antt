@@ -1,41 +1,41 @@
 -- The field that a walk over n occurrences leads to.
-use Rattle.std.proofs.Common.{◌≡◌, ℕ, zero, suc, ◌+◌, ◌≤◌, List, [], ◌∷◌, length, take, drop, Some, None, sym, refl, ap, ◌∙◌, subst}
+use Rattle.std.proofs.Common.{◌≡◌, ℕ, zero, suc, ◌+◌, ◌≤◌, List, [], ◌∷◌, length, take, drop, Some, None, refl, ap, ◌∙◌, subst}
 use Rattle.std.specs.List.{between, slice_get}
 use Rattle.search.specs.Places.{Stands}
 use Rattle.split.specs.Occurrences.{occurrences, occurrences_back, places_past, places_before, end_after, start_before, Next, Prior, FromLeft, FromRight}
 use Rattle.split.specs.Fields.{cut_up, cut_down, left_fields, right_fields}
 use Rattle.split.proofs.Scans.{past_greedy, before_greedy, greedy_unique, right_unique, past_none, past_some, before_none, before_some}
-use Rattle.split.proofs.Seams.{some_is, none_some}
+use Rattle.split.proofs.Seams.{some_is}
 
 module _ (d t : List ℕ) where
   -- after n of the places, the rest are the places from there on
   rest_past : (from n s : ℕ) (ps : List ℕ) → FromLeft d t from ps → end_after d from ps n ≡ Some s → FromLeft d t s (drop n ps)
   rest_past from zero s ps g e = subst (λ (x : ℕ). FromLeft d t x ps) (some_is from s e) g
-  rest_past from (suc n) s [] g e = absurd (none_some s e)
+  rest_past from (suc n) s [] g e = cc
   rest_past from (suc n) s (p ∷ ps) g e = rest_past (p + length d) n s ps g.1 e
 
   rest_before : (to n s : ℕ) (ps : List ℕ) → FromRight d t to ps → start_before to ps n ≡ Some s → FromRight d t s (drop n ps)
   rest_before to zero s ps g e = subst (λ (x : ℕ). FromRight d t x ps) (some_is to s e) g
-  rest_before to (suc n) s [] g e = absurd (none_some s e)
+  rest_before to (suc n) s [] g e = cc
   rest_before to (suc n) s (p ∷ ps) g e = rest_before p n s ps g.1 e
 
   field_past : (from n s : ℕ) (ps : List ℕ) → end_after d from ps n ≡ Some s → slice_get (cut_up d t from ps) n ≡ slice_get (cut_up d t s (drop n ps)) 0
   field_past from zero s ps e = ap (λ x. slice_get (cut_up d t x ps) 0) (some_is from s e)
-  field_past from (suc n) s [] e = absurd (none_some s e)
+  field_past from (suc n) s [] e = cc
   field_past from (suc n) s (p ∷ ps) e = field_past (p + length d) n s ps e
 
   field_before : (to n s : ℕ) (ps : List ℕ) → start_before to ps n ≡ Some s → slice_get (cut_down d t to ps) n ≡ slice_get (cut_down d t s (drop n ps)) 0
   field_before to zero s ps e = ap (λ x. slice_get (cut_down d t x ps) 0) (some_is to s e)
-  field_before to (suc n) s [] e = absurd (none_some s e)
+  field_before to (suc n) s [] e = cc
   field_before to (suc n) s (p ∷ ps) e = field_before p n s ps e
 
   gone_past : (from n : ℕ) (ps : List ℕ) → end_after d from ps n ≡ None → slice_get (cut_up d t from ps) n ≡ None
-  gone_past from zero ps e = absurd (none_some from (sym e))
+  gone_past from zero ps e = cc
   gone_past from (suc n) [] e = refl
   gone_past from (suc n) (p ∷ ps) e = gone_past (p + length d) n ps e
 
   gone_before : (to n : ℕ) (ps : List ℕ) → start_before to ps n ≡ None → slice_get (cut_down d t to ps) n ≡ None
-  gone_before to zero ps e = absurd (none_some to (sym e))
+  gone_before to zero ps e = cc
   gone_before to (suc n) [] e = refl
   gone_before to (suc n) (p ∷ ps) e = gone_before p n ps e
 

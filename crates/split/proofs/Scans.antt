@@ -2,21 +2,18 @@
 use Rattle.std.proofs.Common.{◌≡◌, ℕ, zero, suc, ◌+◌, ◌-◌, ◌<◌, ◌≤◌, List, [], ◌∷◌, length, refl, ap, ◌∙◌, subst, inl, inr, arith}
 use Rattle.std.proofs.lemmas.Bool.{cases_lt, cases_order, cond_both, both_ways}
 use Rattle.search.specs.Places.{Stands, stands}
-use Rattle.search.proofs.Nearest.{stands_decides}
+use Rattle.search.proofs.Nearest.{moved, stands_decides}
 use Rattle.split.specs.Occurrences.{upward, downward, places_past, places_before, Next, FromLeft, Prior, FromRight}
 
 module _ (d t : List ℕ) where
-  moved : (p q : ℕ) → q ≡ p → (Stands d t p → ⊥) → Stands d t q → ⊥
-  moved p q e never s = never (subst (Stands d t) e s)
-
   -- where d does not stand at p, one may start there too
   pub earlier : (p : ℕ) (ps : List ℕ) → (Stands d t p → ⊥) → FromLeft d t (suc p) ps → FromLeft d t p ps
-  earlier p [] never h = λ q a s. elim (cases_lt p q) [ inl lt ↦ h q (omega arith) s | inr ge ↦ moved p q (omega arith) never s ]
+  earlier p [] never h = λ q a s. elim (cases_lt p q) [ inl lt ↦ h q (omega arith) s | inr ge ↦ moved d t p q (omega arith) never s ]
   earlier p (q ∷ ps) never h = (
     record {
       past = omega (arith, h.0.past);
       here = h.0.here;
-      first = λ r a b s. elim (cases_lt p r) [ inl lt ↦ h.0.first r (omega arith) b s | inr ge ↦ moved p r (omega arith) never s ];
+      first = λ r a b s. elim (cases_lt p r) [ inl lt ↦ h.0.first r (omega arith) b s | inr ge ↦ moved d t p r (omega arith) never s ];
     },
     h.1,
   )
@@ -56,12 +53,12 @@ module _ (d t : List ℕ) where
   -- the same from the right: where d does not stand at p, one may end past it too
   later : (p to : ℕ) (ps : List ℕ) → (0 < length d → p + length d ≡ to) → (Stands d t p → ⊥) → FromRight d t (p + length d - 1) ps → FromRight d t to ps
   later p to [] e never h =
-      λ q a s. let f = e s.some in elim (cases_lt q p) [ inl lt ↦ h q (omega (arith, s.some)) s | inr ge ↦ moved p q (omega arith) never s ]
+      λ q a s. let f = e s.some in elim (cases_lt q p) [ inl lt ↦ h q (omega (arith, s.some)) s | inr ge ↦ moved d t p q (omega arith) never s ]
   later p to (q ∷ ps) e never h = let f = e h.0.here.some in (
     record {
       before = omega (arith, h.0.before, h.0.here.some);
       here = h.0.here;
-      last = λ r a b s. elim (cases_lt r p) [ inl lt ↦ h.0.last r a (omega (arith, s.some)) s | inr ge ↦ moved p r (omega arith) never s ];
+      last = λ r a b s. elim (cases_lt r p) [ inl lt ↦ h.0.last r a (omega (arith, s.some)) s | inr ge ↦ moved d t p r (omega arith) never s ];
     },
     h.1,
   )

@@ -1,5 +1,5 @@
 -- Where a row may be cut: beside each occurrence of a well-formed delimiter.
-use Rattle.std.proofs.Common.{◌≡◌, ℕ, zero, suc, ◌+◌, ◌<◌, List, [], ◌∷◌, ◌++◌, length, take, drop, Some, None, IsUtf8, sym, ap, ◌∙◌, subst, arith}
+use Rattle.std.proofs.Common.{◌≡◌, ℕ, zero, suc, ◌+◌, ◌<◌, List, [], ◌∷◌, ◌++◌, length, take, drop, Some, IsUtf8, sym, ap, ◌∙◌, subst, arith}
 use Rattle.std.specs.Str.{IsCharBoundary}
 use Rattle.std.proofs.lemmas.List.{take-append-drop, drop-drop}
 use Rattle.std.proofs.lemmas.Str.{IsCharBoundary-from_take, IsCharBoundary-from_drop, IsCharBoundary-start, IsCharBoundary-end}
@@ -24,9 +24,6 @@ not_empty d h e = omega (arith, ap length e)
 pub some_is : (x y : ℕ) → Some x ≡ Some y → x ≡ y
 some_is x y e = cc
 
-pub none_some : (x : ℕ) → None ≡ Some x → ⊥
-none_some x e = let z : ◌≡◌ {A = ℕ} 0 1 = cc in omega arith
-
 module _ (d t : List ℕ) (u : IsUtf8 t) (w : WellFormed d) where
   pub sides : (p : ℕ) → Stands d t p → IsCharBoundary t p × IsCharBoundary t (p + length d)
   sides p s =
@@ -38,12 +35,12 @@ module _ (d t : List ℕ) (u : IsUtf8 t) (w : WellFormed d) where
 
   past_seam : (from n s : ℕ) (ps : List ℕ) → FromLeft d t from ps → IsCharBoundary t from → end_after d from ps n ≡ Some s → IsCharBoundary t s
   past_seam from zero s ps g b e = subst (IsCharBoundary t) (some_is from s e) b
-  past_seam from (suc n) s [] g b e = absurd (none_some s e)
+  past_seam from (suc n) s [] g b e = cc
   past_seam from (suc n) s (p ∷ ps) g b e = past_seam (p + length d) n s ps g.1 (sides p g.0.here).1 e
 
   before_seam : (to n s : ℕ) (ps : List ℕ) → FromRight d t to ps → IsCharBoundary t to → start_before to ps n ≡ Some s → IsCharBoundary t s
   before_seam to zero s ps g b e = subst (IsCharBoundary t) (some_is to s e) b
-  before_seam to (suc n) s [] g b e = absurd (none_some s e)
+  before_seam to (suc n) s [] g b e = cc
   before_seam to (suc n) s (p ∷ ps) g b e = before_seam p n s ps g.1 (sides p g.0.here).0 e
 
   pub walked_seam : (n s : ℕ) → end_after d 0 (occurrences d t) n ≡ Some s → IsCharBoundary t s

@@ -67,9 +67,8 @@ impl Request {
     pub fn replay(&self) -> Result<(), Difference> {
         let row = open_text(self.row.as_slice()).map_err(|_| Difference::NoRequest)?;
         let operand = open_text(self.operand.as_slice()).map_err(|_| Difference::NoRequest)?;
-        let (part, at) = answer(self.operation, row, operand, self.number).map_err(
-            |_| Difference::Fault,
-        )?;
+        let answer = answer(self.operation, row, operand, self.number);
+        let (part, at) = answer.map_err(|_| Difference::Fault)?;
         if part.as_bytes() != self.bytes.as_slice() {
             return Err(Difference::Bytes);
         }
