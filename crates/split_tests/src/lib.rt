@@ -14,7 +14,7 @@ use std::test::Fail;
 
 /// The searcher for a text of one byte.
 fn one_byte(delimiter: &str) -> Result<OneByte, Fail> {
-    OneByte::new(delimiter).ok_or(Fail::new("the delimiter has not one byte"))
+    OneByte::new(delimiter).ok_or_else(|| Fail::new("the delimiter has not one byte"))
 }
 
 /// Checks the delimiter's length, and its lowest and highest place in `text`.
