@@ -1,8 +1,10 @@
 -- Memory without rows is all zeros.
 use Rattle.std.proofs.Common.{◌≡◌, ℕ, zero, suc, ◌+◌, [], ◌∷◌, ◌++◌, map, length, replicate, ℤ, pos, refl, ap, ◌∙◌, arith}
 use Rattle.std.proofs.lemmas.List.{length-append, length-map, replicate-append-replicate}
-use Rattle.offset_layout.specs.Layout.{zeros, values_of, bitmap_of}
-use Rattle.offset_layout.proofs.Bitmap.{bitmap_none}
+use Rattle.offset_layout.specs.Layout.{values_of}
+use Rattle.writing.specs.Bitmaps.{bitmap_of}
+use Rattle.writing.specs.Padding.{zeros}
+use Rattle.writing.proofs.Bitmaps.{bitmap_none}
 use Rattle.offset_layout.proofs.Offsets.{offsets_none}
 use Rattle.offset_layout.proofs.Values.{values_none}
 use Rattle.offset_output.specs.Stores.{code, image, laid, memory_of, sizes_of}

@@ -1,6 +1,7 @@
 -- Rows kept and rows pending in lent memory.
 use Rattle.std.specs.Prelude.{◌≡◌, ℕ, ◌+◌, ◌*◌, ◌≤◌, true, List, [], ◌∷◌, ◌++◌, map, length, take, drop, ℤ, pos, negsuc}
-use Rattle.offset_layout.specs.Layout.{used, all_formed, offsets_of, values_of, bitmap_of}
+use Rattle.offset_layout.specs.Layout.{used, all_formed, offsets_of, values_of}
+use Rattle.writing.specs.Bitmaps.{bitmap_of}
 use Rattle.output.specs.Rows.{Piece, Rule, nulls_in}
 use Rattle.output.specs.declared.Counts.{Counts}
 use Rattle.source.specs.Rows.{Row}

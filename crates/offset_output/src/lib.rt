@@ -2,7 +2,6 @@
 //! A finished output is read as an offset column.
 #![tactic(auto)]
 
-mod cells;
 mod extent;
 pub mod memory;
 pub mod offset_output_32;

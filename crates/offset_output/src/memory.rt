@@ -5,10 +5,11 @@ ghost use Rattle.offset_output.specs.Memories.{Added, Has, SameSizes, capacity_o
 ghost use Rattle.output.specs.Rows.{nulls_in};
 ghost use Rattle.std.specs.Option.{option_map};
 
-use crate::cells;
 use crate::extent::Extent;
 use crate::width::OffsetWidth;
 use fault::Fault;
+use writing::bits::{mark, unmark};
+use writing::bytes::{put_text, wipe};
 
 /// Lent memory. The output that it is given to clears it.
 pub struct Memory<'a, W: OffsetWidth> {
@@ -53,8 +54,8 @@ impl<W: OffsetWidth> Memory<'_, W> {
     {
         let bytes = text.as_bytes();
         self.offsets[held.rows + 1] = end;
-        cells::put(self.values, held.bytes, bytes);
-        cells::mark(self.validity, held.rows);
+        put_text(self.values, held.bytes, bytes);
+        mark(self.validity, held.rows);
         Extent {
             rows: held.rows + 1,
             bytes: held.bytes + bytes.len(),
@@ -92,10 +93,15 @@ impl<W: OffsetWidth> Memory<'_, W> {
         ensures sizes { SameSizes self.old self.new }
         ensures has { Has W.Width.number self.new (take kept.rows (rows_of W.Width.number self.old held.rows)) kept }
     {
-        cells::wipe_offsets(self.offsets, kept.rows + 1, held.rows + 1);
-        cells::wipe(self.values, kept.bytes, held.bytes);
-        cells::unmark(self.validity, kept.rows);
-        cells::wipe(self.validity, kept.rows / 8 + 1, (held.rows - 1) / 8 + 1);
+        wipe(self.offsets, kept.rows + 1, held.rows + 1, W::zero());
+        wipe(self.values, kept.bytes, held.bytes, 0);
+        unmark(self.validity, kept.rows);
+        wipe(
+            self.validity,
+            kept.rows / 8 + 1,
+            (held.rows - 1) / 8 + 1,
+            0,
+        );
     }
 
     /// Clears all.
@@ -104,10 +110,8 @@ impl<W: OffsetWidth> Memory<'_, W> {
         ensures has { Has W.Width.number self.new [] (record { rows = 0; bytes = 0; nulls = 0 }) }
     {
         let size = self.offsets.len();
-        cells::wipe_offsets(self.offsets, 0, size);
-        let size = self.values.len();
-        cells::wipe(self.values, 0, size);
-        let size = self.validity.len();
-        cells::wipe(self.validity, 0, size);
+        wipe(self.offsets, 0, size, W::zero());
+        self.values.fill(0);
+        self.validity.fill(0);
     }
 }

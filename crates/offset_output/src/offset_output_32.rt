@@ -2,7 +2,7 @@
 ghost use Rattle.std.specs.Prelude.{◌≡◌, [], ◌++◌, map, length, None};
 ghost use Rattle.columns.specs.Offsets.{rows_in, verdict};
 ghost use Rattle.columns.specs.Reading.{itself};
-ghost use Rattle.offset_layout.specs.Layout.{zeros};
+ghost use Rattle.writing.specs.Padding.{zeros};
 ghost use Rattle.offset_output.specs.Memories.{lists_of, rule_of};
 ghost use Rattle.offset_output.specs.Stores.{Counted, Ordered, Sound, counted, image, kept_pieces, memory_of, pending_pieces, sizes_of, store_rule};
 ghost use Rattle.output.specs.Rows.{copied, nulls_in, row_of};

@@ -1,7 +1,7 @@
 //! Rows kept and rows pending in lent memory, once for every width.
 ghost use Rattle.std.specs.Prelude.{◌≡◌, [], ◌++◌, map, length, None};
 ghost use Rattle.columns.specs.Offsets.{rows_in, verdict};
-ghost use Rattle.offset_layout.specs.Layout.{zeros};
+ghost use Rattle.writing.specs.Padding.{zeros};
 ghost use Rattle.offset_output.specs.Memories.{lists_of, rule_of};
 ghost use Rattle.offset_output.specs.Stores.{Counted, Ordered, Sound, counted, image, kept_pieces, memory_of, pending_pieces, sizes_of, store_rule, whole};
 ghost use Rattle.output.specs.Rows.{grown, nulls_in, row_of};

@@ -6,7 +6,7 @@ ghost use Rattle.view_memory.specs.Memories.{Counted, Has, SameSizes, rows_of};
 use crate::memory::Memory;
 use output::Counts;
 use writing::bits::unmark;
-use writing::bytes::{wipe, wipe_ends};
+use writing::bytes::wipe;
 
 /// Takes the ends back to those of the rows kept: the last of them may have grown since.
 fn cut_ends(ends: &mut [u64], kept: Counts, held: Counts)
@@ -14,7 +14,7 @@ fn cut_ends(ends: &mut [u64], kept: Counts, held: Counts)
     requires within { held.buffers ≤ length ends.old }
     ensures { ends.new ≡ ends_cut ends.old kept.buffers held.buffers kept.value_bytes }
 {
-    wipe_ends(ends, kept.buffers, held.buffers);
+    wipe(ends, kept.buffers, held.buffers, 0);
     if kept.buffers > 0 {
         ends[kept.buffers - 1] = kept.value_bytes as u64;
     }
@@ -30,11 +30,11 @@ impl Memory<'_> {
         ensures sizes { SameSizes self.old self.new }
         ensures holds { Has self.new (take kept.rows (rows_of self.old held)) }
     {
-        wipe(self.views, 16 * kept.rows, 16 * held.rows);
+        wipe(self.views, 16 * kept.rows, 16 * held.rows, 0);
         unmark(self.validity, kept.rows);
-        wipe(self.validity, kept.rows / 8 + 1, (held.rows - 1) / 8 + 1);
+        wipe(self.validity, kept.rows / 8 + 1, (held.rows - 1) / 8 + 1, 0);
         cut_ends(self.ends, kept, held);
-        wipe(self.bytes, kept.value_bytes, held.value_bytes);
+        wipe(self.bytes, kept.value_bytes, held.value_bytes, 0);
     }
 
     /// Zeroes all.
@@ -42,13 +42,9 @@ impl Memory<'_> {
         ensures sizes { SameSizes self.old self.new }
         ensures holds { Has self.new [] }
     {
-        let all = self.views.len();
-        wipe(self.views, 0, all);
-        let all = self.validity.len();
-        wipe(self.validity, 0, all);
-        let all = self.ends.len();
-        wipe_ends(self.ends, 0, all);
-        let all = self.bytes.len();
-        wipe(self.bytes, 0, all);
+        self.views.fill(0);
+        self.validity.fill(0);
+        self.ends.fill(0);
+        self.bytes.fill(0);
     }
 }

@@ -22,7 +22,7 @@ returns g c =
       sizes = (s, omega arith, omega arith);
       rows = refl;
       has = record {
-        holds = push_text_to c.requires.has.holds r t _ c.as_bytes-bytes.ensures.value f c.requires.fits _ _ _ o c.put.ensures c.mark.ensures;
+        holds = push_text_to c.requires.has.holds r t _ c.as_bytes-bytes.ensures.value f c.requires.fits _ _ _ o c.put_text.ensures c.mark.ensures;
         nulls = text_more (rows_of num m n) t ∙ c.requires.has.nulls;
       };
     }
