@@ -1,12 +1,13 @@
 -- What is known of rows that may be opened.
-use Rattle.std.proofs.Common.{◌≡◌, ℕ, ◌+◌, ◌<◌, Bool, true, cond, ◌||◌, eqb, ltb, List, length, is_some, Some, None, Option, ap, ◌∙◌, inl, inr, arith}
+use Rattle.std.proofs.Common.{◌≡◌, ℕ, ◌+◌, ◌<◌, ◌≤◌, Bool, true, false, cond, ◌||◌, eqb, ltb, List, length, get_or, is_some, Some, None, Option, sym, ap, ◌∙◌, inl, inr, arith}
 use Rattle.std.proofs.lemmas.Bool.{and_parts, or_cases, ltb-true, eqb-true}
 use Rattle.fault.specs.declared.Fault.TheVariants.{ShortList, Offset}
 use Rattle.bitmap.specs.Validity.{valid}
 use Rattle.source.specs.Verdicts.{unless, then, first_fault, malformed, accepts}
 use Rattle.source.proofs.Faults.{none_from_accepts, true_from_unless, then_none, first_fault_none, formed_from_none}
+use Rattle.source.proofs.Numbered.{at_rows_by, past_rows_by}
 use Rattle.text.specs.Steps.{formed}
-use Rattle.columns.specs.Offsets.{Lists, enough, part, row_at, row_fault, verdict}
+use Rattle.columns.specs.Offsets.{Lists, enough, part, row_at, row_fault, rows_in, verdict}
 
 -- each of the rows has its two offsets
 pub room_from_enough : (n : ℕ) (m : Lists) (i : ℕ) → enough n m ≡ true → i < n → i + 1 < length m.offsets
@@ -38,3 +39,14 @@ module _ (n : ℕ) (m : Lists) (sound : accepts (verdict n m) ≡ true) where
       let f : row_fault m i ≡ None = first_fault_none (row_fault m) n i parts.1 l in
       let g : malformed i (row_at m i) ≡ None = (then_none (unless (is_some (part m i)) (Offset i)) (malformed i (row_at m i)) f).1 in
       formed_from_none i (row_at m i) t (simp v e) g
+
+-- a row by its number
+module _ (n : ℕ) (m : Lists) (i : ℕ) where
+  pub past_end : n ≤ i → None ≡ get_or (rows_in n m) i None
+  past_end l = sym (past_rows_by (row_at m) n i None l)
+
+  pub at_null : i < n → false ≡ valid m.validity i → None ≡ get_or (rows_in n m) i None
+  at_null l v = ap (λ b. cond b (part m i) None) v ∙ sym (at_rows_by (row_at m) n i None l)
+
+  pub at_part : i < n → true ≡ valid m.validity i → part m i ≡ get_or (rows_in n m) i None
+  at_part l v = ap (λ b. cond b (part m i) None) v ∙ sym (at_rows_by (row_at m) n i None l)

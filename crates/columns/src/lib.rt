@@ -3,10 +3,9 @@
 #![tactic(auto)]
 
 pub mod lent;
-pub mod offset_column_32;
-pub mod offset_column_64;
+pub mod offset_column;
 pub mod position_column;
 mod reading;
 pub mod width;
-pub mod width_32;
-pub mod width_64;
+mod width_32;
+mod width_64;

@@ -1,5 +1,5 @@
 //! Position columns: signed 64-bit numbers, each valid or null.
-ghost use Rattle.std.specs.Prelude.{◌≡◌, true, [], MatchResult};
+ghost use Rattle.std.specs.Prelude.{◌≡◌, true, [], IfOk};
 ghost use Rattle.columns.specs.Positions.{enough_numbers, numbers, positions_in, positions_verdict};
 ghost use Rattle.source.specs.Verdicts.{accepts, fault_of};
 
@@ -17,13 +17,11 @@ pub struct PositionColumn<'a> {
 }
 
 /// Whether the lists are long enough for the rows.
+#[tactic(auto, using(std::proofs::lemmas::Bool::Decides::nat_tests), unfolding(crate::specs::Positions::enough_numbers))]
 fn is_enough(rows: usize, values: &[i64], validity: Option<&[u8]>) -> bool
     ensures { result ≡ enough_numbers rows (numbers values.entry validity.entry) }
 {
-    if rows > values.len() {
-        return false;
-    }
-    covers(validity, rows)
+    rows <= values.len() && covers(validity, rows)
 }
 
 impl<'a> PositionColumn<'a> {
@@ -38,25 +36,23 @@ impl<'a> PositionColumn<'a> {
         }
     }
 
-    /// Opens rows over lent memory, in place of those that the column had; after a fault it is as it was.
+    /// A column of the positions that lie in lent memory.
     pub fn open(
-        &mut self,
         rows: usize,
         values: &'a [i64],
         validity: Option<&'a [u8]>,
-    ) -> Result<(), Fault>
+    ) -> Result<PositionColumn<'a>, Fault>
         ensures answer { fault_of result ≡ positions_verdict rows (numbers values.entry validity.entry) }
-        ensures column { MatchResult result (λ _. (self.new.rows ≡ rows) × (self.new.values ≡ values.entry) × (self.new.validity ≡ validity.entry)) (λ _. self.new ≡ self.old) }
+        ensures column { IfOk result (λ c. (c.rows ≡ rows) × (c.values ≡ values.entry) × (c.validity ≡ validity.entry)) }
     {
         if !is_enough(rows, values, validity) {
             return Err(Fault::ShortList);
         }
-        *self = PositionColumn {
+        Ok(PositionColumn {
             rows,
             values,
             validity,
-        };
-        Ok(())
+        })
     }
 }
 
@@ -68,10 +64,7 @@ impl<'a> Positions for PositionColumn<'a> {
     }
 
     fn position(&self, row: usize) -> Option<i64> {
-        if row >= self.rows {
-            return None;
-        }
-        if !is_valid(self.validity, row) {
+        if row >= self.rows || !is_valid(self.validity, row) {
             return None;
         }
         Some(self.values[row])

@@ -6,14 +6,10 @@ ghost use Rattle.columns.specs.Offsets.{place_of};
 pub trait Width: Copy {
     ghost number: { Self → ℤ };
 
-    ghost most: { ℕ };
+    ghost LARGEST: { ℕ };
 
     /// The largest offset.
     const LARGEST: u64;
-
-    /// The largest offset, for contracts, which cannot name a constant of a trait.
-    fn most() -> u64
-        ensures { result ≡ most };
 
     /// The offset as a place among bytes; nothing where it is negative.
     fn place(self) -> Option<usize>

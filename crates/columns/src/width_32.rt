@@ -6,15 +6,11 @@ use crate::width::Width;
 impl Width for i32 {
     ghost number = { itself };
 
-    ghost most = { 2147483647 };
+    ghost LARGEST = { 2147483647 };
 
     const LARGEST: u64 = 2147483647;
 
-    fn most() -> u64 {
-        Self::LARGEST
-    }
-
     fn place(self) -> Option<usize> {
-        if self < 0 { None } else { Some(self as usize) }
+        usize::try_from(self).ok()
     }
 }

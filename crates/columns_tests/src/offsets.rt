@@ -1,34 +1,17 @@
 use crate::report::told;
 use columns::lent::Lent;
-use columns::offset_column_32::OffsetColumn32;
-use columns::offset_column_64::OffsetColumn64;
+use columns::offset_column::OffsetColumn;
+use columns::width::Width;
 use source::Source;
+use std::test::Fail;
 
-fn open32<'a>(
+fn open<'a, W: Width>(
     rows: usize,
-    offsets: &'a [i32],
+    offsets: &'a [W],
     values: &'a [u8],
     validity: Option<&'a [u8]>,
 ) -> (u8, usize) {
-    let mut column = OffsetColumn32::empty();
-    told(column.open(
-        rows,
-        Lent {
-            offsets,
-            values,
-            validity,
-        },
-    ))
-}
-
-fn open64<'a>(
-    rows: usize,
-    offsets: &'a [i64],
-    values: &'a [u8],
-    validity: Option<&'a [u8]>,
-) -> (u8, usize) {
-    let mut column = OffsetColumn64::empty();
-    told(column.open(
+    told(OffsetColumn::open(
         rows,
         Lent {
             offsets,
@@ -40,76 +23,86 @@ fn open64<'a>(
 
 #[test]
 fn no_rows_need_no_lists(rt: HostRuntime) {
-    assert!(rt; open32(0, &[], b"", None) == (0, 0));
-    assert!(rt; open64(0, &[], b"", Some(b"")) == (0, 0));
-    assert!(rt; open32(0, &[-1], b"", None) == (0, 0), "no offset is read");
+    assert!(rt; open::<i32>(0, &[], b"", None) == (0, 0));
+    assert!(rt; open::<i64>(0, &[], b"", Some(b"")) == (0, 0));
+    assert!(rt;
+        open::<i32>(0, &[-1], b"", None) == (0, 0),
+        "no offset is read"
+    );
 }
 
 #[test]
 fn short_lists(rt: HostRuntime) {
-    assert!(rt; open32(1, &[0], b"", None) == (1, 0));
-    assert!(rt; open64(1, &[0], b"", None) == (1, 0));
-    assert!(rt; open32(2, &[-1, 0], b"", None) == (1, 0), "before the rows");
-    assert!(rt; open32(1, &[0, 0], b"", Some(b"")) == (1, 0));
-    assert!(rt; open32(8, &[0, 0, 0, 0, 0, 0, 0, 0, 0], b"", Some(b"\xff")) == (0, 0));
-    assert!(rt; open32(9, &[0, 0, 0, 0, 0, 0, 0, 0, 0, 0], b"", Some(b"\xff")) == (1, 0));
-    assert!(rt; open32(18446744073709551615, &[0, 0], b"", Some(b"\xff")) == (1, 0));
-    assert!(rt; open64(18446744073709551608, &[0], b"", None) == (1, 0));
+    assert!(rt; open::<i32>(1, &[0], b"", None) == (1, 0));
+    assert!(rt; open::<i64>(1, &[0], b"", None) == (1, 0));
+    assert!(rt;
+        open::<i32>(2, &[-1, 0], b"", None) == (1, 0),
+        "before the rows"
+    );
+    assert!(rt; open::<i32>(1, &[0, 0], b"", Some(b"")) == (1, 0));
+    assert!(rt; open::<i32>(8, &[0, 0, 0, 0, 0, 0, 0, 0, 0], b"", Some(b"\xff")) == (0, 0));
+    assert!(rt; open::<i32>(9, &[0, 0, 0, 0, 0, 0, 0, 0, 0, 0], b"", Some(b"\xff")) == (1, 0));
+    assert!(rt; open::<i32>(18446744073709551615, &[0, 0], b"", Some(b"\xff")) == (1, 0));
+    assert!(rt; open::<i64>(18446744073709551608, &[0], b"", None) == (1, 0));
 }
 
 #[test]
 fn offsets_out_of_order(rt: HostRuntime) {
-    assert!(rt; open32(1, &[-1, 0], b"ab", None) == (3, 0));
-    assert!(rt; open32(1, &[3, 3], b"ab", None) == (3, 0));
-    assert!(rt; open32(3, &[0, 1, 2, 1], b"ab", None) == (3, 2));
-    assert!(rt; open64(3, &[0, 1, 2, 3], b"ab", None) == (3, 2));
-    assert!(rt; open64(2, &[0, 1, -1], b"ab", None) == (3, 1));
-    assert!(rt; open64(2, &[0, 1, 9223372036854775807], b"ab", None) == (3, 1));
+    assert!(rt; open::<i32>(1, &[-1, 0], b"ab", None) == (3, 0));
+    assert!(rt; open::<i32>(1, &[3, 3], b"ab", None) == (3, 0));
+    assert!(rt; open::<i32>(3, &[0, 1, 2, 1], b"ab", None) == (3, 2));
+    assert!(rt; open::<i64>(3, &[0, 1, 2, 3], b"ab", None) == (3, 2));
+    assert!(rt; open::<i64>(2, &[0, 1, -1], b"ab", None) == (3, 1));
+    assert!(rt; open::<i64>(2, &[0, 1, 9223372036854775807], b"ab", None) == (3, 1));
     assert!(rt;
-        open32(2, &[0, 2, 1], b"ab", Some(b"\x00")) == (3, 1),
+        open::<i32>(2, &[0, 2, 1], b"ab", Some(b"\x00")) == (3, 1),
         "the offsets of a null row are looked at"
     );
 }
 
 #[test]
 fn malformed_rows(rt: HostRuntime) {
-    assert!(rt; open32(2, &[0, 1, 2], b"\xffb", None) == (5, 0));
-    assert!(rt; open32(2, &[0, 1, 2], b"a\xff", None) == (5, 1));
+    assert!(rt; open::<i32>(2, &[0, 1, 2], b"\xffb", None) == (5, 0));
+    assert!(rt; open::<i32>(2, &[0, 1, 2], b"a\xff", None) == (5, 1));
     assert!(rt;
-        open64(2, &[0, 1, 2], b"\xc3\xa9", None) == (5, 0),
+        open::<i64>(2, &[0, 1, 2], b"\xc3\xa9", None) == (5, 0),
         "a character in two rows"
     );
-    assert!(rt; open64(1, &[0, 2], b"\xc3\xa9", None) == (0, 0));
+    assert!(rt; open::<i64>(1, &[0, 2], b"\xc3\xa9", None) == (0, 0));
     assert!(rt;
-        open32(2, &[0, 1, 2], b"a\xff", Some(b"\x01")) == (0, 0),
+        open::<i32>(2, &[0, 1, 2], b"a\xff", Some(b"\x01")) == (0, 0),
         "the text of a null row is not looked at"
     );
     assert!(rt;
-        open32(3, &[0, 1, 2, 1], b"a\xff", None) == (5, 1),
+        open::<i32>(3, &[0, 1, 2, 1], b"a\xff", None) == (5, 1),
         "rows upward"
     );
 }
 
 #[test]
-fn rows_are_read(rt: HostRuntime) {
-    let mut column = OffsetColumn32::empty();
-    assert!(rt; column.text(0) == None);
+fn rows_are_read(rt: HostRuntime) -> Result<(), Fail> {
+    let empty: OffsetColumn<i32> = OffsetColumn::empty();
+    assert!(rt; empty.text(0) == None);
     let lent = Lent {
         offsets: &[1, 3, 3, 6],
         values: b"xabcde",
         validity: Some(b"\x05"),
     };
-    assert!(rt; told(column.open(3, lent)) == (0, 0));
+    let column: OffsetColumn<i32> = OffsetColumn::open(3, lent)?;
     assert!(rt; column.rows() == 3);
     assert!(rt; column.text(0) == Some("ab"));
     assert!(rt; column.text(1) == None);
     assert!(rt; column.text(2) == Some("cde"));
     assert!(rt; column.text(3) == None);
-    let short = Lent {
+    let short: Lent<i32> = Lent {
         offsets: &[],
         values: b"",
         validity: None,
     };
-    assert!(rt; told(column.open(1, short)) == (1, 0));
-    assert!(rt; column.rows() == 3, "after a fault the column is as it was");
+    assert!(rt; told(OffsetColumn::open(1, short)) == (1, 0));
+    assert!(rt;
+        column.rows() == 3,
+        "beside a refused opening the column is as it was"
+    );
+    Ok(())
 }

@@ -2,9 +2,9 @@
 use fault::Fault;
 
 /// The fault's number and row; 0 and 0 where there is none.
-pub fn told(opened: Result<(), Fault>) -> (u8, usize) {
+pub fn told<T: Drop>(opened: Result<T, Fault>) -> (u8, usize) {
     match opened {
-        Ok(()) => (0, 0),
+        Ok(_) => (0, 0),
         Err(fault) => (fault.number(), fault.row()),
     }
 }

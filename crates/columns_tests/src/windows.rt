@@ -27,16 +27,11 @@ fn windows_of_windows(rt: HostRuntime) -> Result<(), Fail> {
 
 #[test]
 fn positions(rt: HostRuntime) -> Result<(), Fail> {
-    let mut column = PositionColumn::empty();
-    assert!(rt; column.open(3, &[1, -2], None).is_err());
-    assert!(rt; column.open(1, &[1], Some(b"")).is_err());
-    assert!(rt;
-        column
-            .open(18446744073709551615, &[1], Some(b"\x01"))
-            .is_err()
-    );
-    assert!(rt; column.open(0, &[], None).is_ok());
-    assert!(rt; column.open(3, &[1, -2, 3], Some(b"\x06")).is_ok());
+    assert!(rt; PositionColumn::open(3, &[1, -2], None).is_err());
+    assert!(rt; PositionColumn::open(1, &[1], Some(b"")).is_err());
+    assert!(rt; PositionColumn::open(18446744073709551615, &[1], Some(b"\x01")).is_err());
+    assert!(rt; PositionColumn::open(0, &[], None).is_ok());
+    let column = PositionColumn::open(3, &[1, -2, 3], Some(b"\x06"))?;
     assert!(rt; column.position(0) == None);
     assert!(rt; column.position(1) == Some(-2));
     assert!(rt; column.position(3) == None);

@@ -1,9 +1,10 @@
 -- The first fault of several, as a loop comes upon it.
-use Rattle.std.proofs.Common.{◌≡◌, ℕ, zero, suc, ◌+◌, ◌-◌, ◌<◌, Bool, true, false, List, Some, None, sym, refl, ap, ◌∙◌, inl, inr, add-one, arith}
+use Rattle.std.proofs.Common.{◌≡◌, ℕ, zero, suc, ◌+◌, ◌-◌, ◌<◌, Bool, true, false, List, Some, None, Ok, Err, Result, sym, refl, ap, ◌∙◌, inl, inr, add-one, arith}
 use Rattle.std.proofs.lemmas.Bool.{cases_eq, false≢true}
+use Rattle.std.specs.Result.{IsErrAnd}
 use Rattle.fault.specs.declared.Fault.{Fault}
 use Rattle.source.specs.Rows.{Row}
-use Rattle.source.specs.Verdicts.{Verdict, unless, then, first_fault, malformed, accepts}
+use Rattle.source.specs.Verdicts.{Verdict, unless, then, first_fault, malformed, accepts, fault_of}
 use Rattle.text.specs.Steps.{formed}
 
 -- one number more
@@ -25,6 +26,11 @@ first_fault_found f e i n l h g =
 -- none is not some
 pub no_some : {X P : Type 0} (x : X) → None ≡ Some x → P
 no_some x e = let z : ◌≡◌ {A = ℕ} 0 1 = cc in absurd (omega arith)
+
+-- a fault that `?` hands on
+pub handed_on : {X : Type 0} (r : Result X Fault) (e : Fault) → IsErrAnd r (λ d. d ≡ e) → fault_of r ≡ Some e
+handed_on (Ok x) e h = absurd h
+handed_on (Err d) e h = ap Some h
 
 -- no fault at all
 pub none_from_accepts : (v : Verdict) → accepts v ≡ true → v ≡ None

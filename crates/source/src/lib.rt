@@ -7,7 +7,7 @@ ghost use Rattle.source.specs.Rows.{Row};
 ghost use Rattle.std.specs.Option.{option_map};
 
 pub mod repeated;
-pub mod repeated_position;
+mod repeated_position;
 pub mod window;
 
 /// A source means a list of rows, each null or a text. A question changes nothing.
@@ -24,6 +24,7 @@ pub trait Source<'a> {
 }
 
 /// Positions mean a list of rows, each null or a number. A question changes nothing.
+// A trait of its own: a row of a source means the bytes that its text lends, a row of positions the number itself.
 pub trait Positions {
     ghost numbered: { Self → List (Option ℤ) };
 

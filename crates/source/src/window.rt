@@ -17,7 +17,7 @@ pub struct Window<'w, S> {
 fn is_within(first: usize, rows: usize, all: usize) -> bool
     ensures { result ≡ nat_le (first + rows) all }
 {
-    first <= all && rows <= all - first
+    first.checked_add(rows).is_some_and(|end| end <= all)
 }
 
 impl<'w, S> Window<'w, S> {
@@ -57,10 +57,7 @@ impl<'w, S> Window<'w, S> {
     fn clipped(&self, all: usize) -> usize
         ensures { result ≡ min self.now.rows (all - self.now.first) }
     {
-        if all <= self.first {
-            return 0;
-        }
-        self.rows.min(all - self.first)
+        self.rows.min(all.saturating_sub(self.first))
     }
 }
 

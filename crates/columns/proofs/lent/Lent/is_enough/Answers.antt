@@ -10,8 +10,8 @@ returns-then-rows-self g c =
     let l = length-map c.args.self.now.offsets.now g.W.Width.number in
     grind (arith, nat_tests)
 
-pub returns : goal.returns
+pub returns-else-rows-self : goal.returns-else-rows-self
 unfolding enough
-returns g c =
+returns-else-rows-self g c =
     let l = length-map c.args.self.now.offsets.now g.W.Width.number in
     grind (arith, nat_tests)

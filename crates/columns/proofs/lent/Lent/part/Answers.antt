@@ -1,7 +1,7 @@
-use Rattle.std.proofs.Common.{ap, ◌∙◌, arith}
+use Rattle.std.proofs.Common.{ap, ◌∙◌}
 use Rattle.std.specs.Option.{option_map}
 use Rattle.columns.specs.Offsets.{part}
-use Rattle.columns.proofs.Cutting.{no_start, no_end, out_of_order, in_order}
+use Rattle.columns.proofs.Cutting.{no_start, no_end, lent}
 use Rattle.columns.proofs.lent.Lent.part.Goals as goal
 
 pub returns-in_err-start : goal.returns-in_err-start
@@ -13,12 +13,6 @@ unfolding part
 returns-in_err-end g c =
     ap (option_map (λ x. x.now)) c.from_residual-in_err-end.ensures ∙ no_end _ _ _ _ c.in_ok-start.ensures c.in_err-end.ensures
 
-pub returns-then-start-end : goal.returns-then-start-end
-unfolding part
-returns-then-start-end g c =
-    out_of_order _ _ _ _ _ c.in_ok-start.ensures c.in_ok-end.ensures (λ p q.
-    elim c.then-start-end.branch [ goal.then-start-end-via-then-start-end w ↦ omega arith | goal.then-start-end-via-else-start-end+then-end-self w ↦ omega arith ])
-
 pub returns : goal.returns
 unfolding part
-returns g c = in_order _ _ _ _ _ c.in_ok-start.ensures c.in_ok-end.ensures (omega arith) (omega arith)
+returns g c = lent _ _ _ _ _ _ c.in_ok-start.ensures c.in_ok-end.ensures c.get.ensures.lookup

@@ -1,7 +1,0 @@
-use Rattle.source.proofs.Windows.{length_window}
-use Rattle.source.proofs.window.WindowSource.rows.Goals as goal
-
-pub returns : goal.returns
-returns g c =
-    let w = c.args.self.now in
-    length_window (g.S.Source.listed w.source.now) w.first w.rows c.rows.result _ c.rows.ensures c.clipped.ensures
