@@ -2,3 +2,4 @@ pub mod Requests
 pub mod Book
 pub mod Runs
 pub mod Division
+pub mod OnTerms

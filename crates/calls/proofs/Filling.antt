@@ -1,18 +1,35 @@
 -- One row of a call, by its pieces and by its rows alone.
-use Rattle.std.proofs.Common.{◌≡◌, ℕ, ◌+◌, ◌<◌, List, [], ◌∷◌, ◌++◌, map, drop, Some, None, Ok, Err, Option, sym, ap, ◌∙◌}
+use Rattle.std.proofs.Common.{◌≡◌, ℕ, ◌+◌, ◌<◌, List, [], ◌∷◌, ◌++◌, map, drop, Some, None, Ok, Err, Option, Result, sym, refl, ap, ◌∙◌, subst, arith}
+use Rattle.std.specs.Result.{result_map_both}
 use Rattle.std.proofs.lemmas.List.{map_push}
 use Rattle.book.proofs.Feeding.{fed_bad, fed_refused, fed_taken}
 use Rattle.book.specs.Book.{fed}
 use Rattle.book.specs.Requests.{Over, Request, asked_by, asked_rows, each_offer}
 use Rattle.fault.specs.Faults.{placed_at}
 use Rattle.fault.specs.declared.Fault.{Fault}
+use Rattle.output.specs.Pieces.{piece_of}
 use Rattle.output.specs.Rows.{Comes, Piece, Rule, on_rows, row_of}
+use Rattle.output.specs.declared.Piece.{Piece as Given}
 use Rattle.source.specs.Rows.{Row}
+use Rattle.calls.specs.Offers.{Drawn}
 
 -- what is drawn from the base comes from it
 pub comes_over : (base : Option (List Row)) (drawn : List Row) (p : Piece) → Over base drawn → Comes (Some drawn) p → Comes base p
 comes_over None drawn p o h = tt
 comes_over (Some b) drawn p o h = rw o h
+
+-- what was drawn
+pub drawn_piece : (rows : List Row) (r : Result Given Fault) (p : Given) → r ≡ Ok p → Drawn rows r → Comes (Some rows) (piece_of p)
+drawn_piece rows r p e d = subst (Drawn rows) e d
+
+-- a fault that was set at a row, or none
+pub placed_err : {X : Type 0} (r : Result X Fault) (i : ℕ) (f : Fault) → result_map_both (λ x. x) (placed_at i) r ≡ Err f → (e : Fault) × (r ≡ Err e) × (placed_at i e ≡ f)
+placed_err (Ok x) i f h = let z : ◌≡◌ {A = ℕ} 0 1 = cc in absurd (omega arith)
+placed_err (Err e) i f h = (e, refl, cc)
+
+pub placed_ok : {X : Type 0} (r : Result X Fault) (i : ℕ) (x : X) → result_map_both (λ x. x) (placed_at i) r ≡ Ok x → r ≡ Ok x
+placed_ok (Ok y) i x h = h
+placed_ok (Err e) i x h = let z : ◌≡◌ {A = ℕ} 0 1 = cc in absurd (omega arith)
 
 module _ (q : Request) (i : ℕ) (h : i < q.size) (rule : Rule) (ps : List Piece) (taken : Piece → Piece) where
   -- a fault of the row's own

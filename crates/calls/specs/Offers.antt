@@ -1,8 +1,7 @@
 -- What the code of a call answers, row by row.
-use Rattle.std.specs.Prelude.{ℕ, List, Some, Ok, Err, Result}
+use Rattle.std.specs.Prelude.{List, Some, Ok, Err, Result}
 use Rattle.std.specs.Result.{result_map_both}
 use Rattle.book.specs.Requests.{Offer}
-use Rattle.fault.specs.Faults.{placed_at}
 use Rattle.fault.specs.declared.Fault.{Fault}
 use Rattle.output.specs.Pieces.{piece_of}
 use Rattle.output.specs.Rows.{Comes}
@@ -18,7 +17,7 @@ abbrev pub Drawn : List Row → Result Piece Fault → Type 0
 Drawn rows (Ok p) = Comes (Some rows) (piece_of p)
 Drawn rows (Err f) = Unit {0}
 
--- where adding rows ended: with all of them, or with a fault at row i
-abbrev pub ended : {X T : Type 0} → Result T Fault → List X → ℕ → Result (List X) Fault
-ended (Ok x) rows i = Ok rows
-ended (Err f) rows i = Err (placed_at i f)
+-- where adding rows ended: with all of them, or with a fault
+abbrev pub ended : {X T : Type 0} → Result T Fault → List X → Result (List X) Fault
+ended (Ok x) rows = Ok rows
+ended (Err f) rows = Err f

@@ -4,6 +4,7 @@
 ghost use Rattle.std.specs.Prelude.{◌≡◌};
 ghost use Rattle.book.specs.Requests.{Request};
 ghost use Rattle.calls.specs.Offers.{Drawn, offered};
+ghost use Rattle.source.specs.Verdicts.{fault_of};
 
 use fault::Fault;
 use output::Piece;
@@ -14,9 +15,9 @@ pub mod making;
 pub trait Call<'t> {
     ghost request: { Self → Request };
 
-    /// The fault that is there before the first row.
-    fn start(&self) -> Option<Fault>
-        ensures { result ≡ (request self.now).start };
+    /// Refused for the fault that is there before the first row.
+    fn start(&self) -> Result<(), Fault>
+        ensures { fault_of result ≡ (request self.now).start };
 
     /// The number of rows of its window.
     fn rows(&self) -> usize

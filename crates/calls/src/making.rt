@@ -1,36 +1,36 @@
 //! Making a call: its rows are added one by one, and kept all or none.
 ghost use Rattle.std.specs.Prelude.{◌≡◌, false, [], ◌++◌, map, is_ok};
-ghost use Rattle.book.specs.Book.{after, answer, fed};
+ghost use Rattle.book.specs.Book.{fed};
+ghost use Rattle.book.specs.OnTerms.{answer_on, kept_on};
 ghost use Rattle.book.specs.Requests.{Over, asked_by, asked_rows};
 ghost use Rattle.book.specs.Runs.{Booked};
 ghost use Rattle.calls.specs.Offers.{ended};
+ghost use Rattle.fault.specs.Faults.{placed_at};
 ghost use Rattle.output.specs.Rows.{on_rows, row_of};
+ghost use Rattle.std.specs.Result.{result_map_both};
 
 use crate::Call;
 use fault::Fault;
 use output::Output;
 
-/// Adds the rows upward, up to the first fault; `at` is then its row.
-fn fill<'t, C: Call<'t>, O: Output>(
-    call: &C,
-    rows: usize,
-    out: &mut O,
-    at: &mut usize,
-) -> Result<(), Fault>
+/// What a row was told: its fault is set at the row.
+fn at_row<T: Drop>(told: Result<T, Fault>, row: usize) -> Result<T, Fault>
+    ensures { result ≡ result_map_both (λ x. x) (placed_at row) told }
+{
+    told.map_err(|fault| fault.at(row))
+}
+
+/// Adds the rows upward, up to the first fault, which is then that of its row.
+fn fill<'t, C: Call<'t>, O: Output>(call: &C, rows: usize, out: &mut O) -> Result<(), Fault>
     requires { rows ≡ (C.request call.now).size }
     ensures kept { O.kept out.new ≡ O.kept out.old }
-    ensures rule { O.rule out.new ≡ O.rule out.old }
-    ensures base { O.base out.new ≡ O.base out.old }
-    ensures taken { O.taken out.new ≡ O.taken out.old }
-    ensures sizes { O.sizes out.new ≡ O.sizes out.old }
-    ensures pieces { ended result (O.kept out.old ++ O.pending out.new) at.new ≡ fed (on_rows (O.rule out.old)) (O.kept out.old ++ O.pending out.old) 0 (asked_by (O.taken out.old) (C.request call.now)).offers }
-    ensures rows { Over (O.base out.old) (C.request call.now).drawn → ended result (map row_of (O.kept out.old ++ O.pending out.new)) at.new ≡ fed (O.rule out.old) (map row_of (O.kept out.old ++ O.pending out.old)) 0 (asked_rows (C.request call.now)).offers }
+    ensures terms { O.terms out.new ≡ O.terms out.old }
+    ensures pieces { ended result (O.kept out.old ++ O.pending out.new) ≡ fed (on_rows (O.terms out.old).rule) (O.kept out.old ++ O.pending out.old) 0 (asked_by (O.terms out.old).taken (C.request call.now)).offers }
+    ensures rows { Over (O.terms out.old).base (C.request call.now).drawn → ended result (map row_of (O.kept out.old ++ O.pending out.new)) ≡ fed (O.terms out.old).rule (map row_of (O.kept out.old ++ O.pending out.old)) 0 (asked_rows (C.request call.now)).offers }
 {
-    out.faithful();
     for row in 0..rows {
-        *at = row;
-        let piece = call.row(row)?;
-        out.add(piece)?;
+        let piece = at_row(call.row(row), row)?;
+        at_row(out.add(piece), row)?;
     }
     Ok(())
 }
@@ -38,34 +38,26 @@ fn fill<'t, C: Call<'t>, O: Output>(
 /// Makes a call: drops the rows left pending, adds the call's rows and keeps them, or at the first fault none, and
 /// answers how many were added. The answer and the rows kept are the book's. After a refusal the output is as found.
 pub fn make<'t, C: Call<'t>, O: Output>(call: &C, out: &mut O) -> Result<usize, Fault>
-    ensures answer { result ≡ answer (on_rows (O.rule out.old)) (O.kept out.old) (asked_by (O.taken out.old) (C.request call.now)) }
-    ensures kept { O.kept out.new ≡ after (on_rows (O.rule out.old)) (O.kept out.old) (asked_by (O.taken out.old) (C.request call.now)) }
-    ensures book { Over (O.base out.old) (C.request call.now).drawn → Booked (O.rule out.old) (map row_of (O.kept out.old)) (asked_rows (C.request call.now)) result (map row_of (O.kept out.new)) }
+    ensures answer { result ≡ answer_on (O.terms out.old) (O.kept out.old) (C.request call.now) }
+    ensures kept { O.kept out.new ≡ kept_on (O.terms out.old) (O.kept out.old) (C.request call.now) }
+    ensures book { Over (O.terms out.old).base (C.request call.now).drawn → Booked (O.terms out.old).rule (map row_of (O.kept out.old)) (asked_rows (C.request call.now)) result (map row_of (O.kept out.new)) }
     ensures pending { O.pending out.new ≡ [] }
-    ensures rule { O.rule out.new ≡ O.rule out.old }
-    ensures base { O.base out.new ≡ O.base out.old }
-    ensures taken { O.taken out.new ≡ O.taken out.old }
-    ensures sizes { O.sizes out.new ≡ O.sizes out.old }
-    ensures memory { is_ok result ≡ false → (found : O) → O.sizes found ≡ O.sizes out.old → O.kept found ≡ O.kept out.old → O.pending found ≡ [] → O.memory out.new ≡ O.memory found }
+    ensures terms { O.terms out.new ≡ O.terms out.old }
+    ensures memory { is_ok result ≡ false → (found : O) → (O.terms found).sizes ≡ (O.terms out.old).sizes → O.kept found ≡ O.kept out.old → O.pending found ≡ [] → O.memory out.new ≡ O.memory found }
 {
     let slip = out.open();
     out.discard(slip);
-    if let Some(fault) = call.start() {
-        out.fixed();
-        return Err(fault);
-    }
-    let slip = out.open();
+    call.start()?;
     let rows = call.rows();
-    let mut at = 0;
-    match fill(call, rows, out, &mut at) {
+    let slip = out.open();
+    match fill(call, rows, out) {
         Ok(()) => {
             out.keep(slip);
             Ok(rows)
         }
         Err(fault) => {
             out.discard(slip);
-            out.fixed();
-            Err(fault.at(at))
+            Err(fault)
         }
     }
 }

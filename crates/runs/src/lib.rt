@@ -44,7 +44,6 @@ pub trait Divisible<'t>: Call<'t> {
     fn is_cuttable(&self) -> bool
         ensures { result ≡ cuttable self.now };
 
-    /// A fact for proofs, that the calls on windows have the call's rows; it does nothing.
-    fn divides(&self)
-        ensures { cuttable self.now ≡ true → Divides Self.Call.request part self.now };
+    // The calls on windows have the call's rows.
+    ghost divides: { (c : Self) → cuttable c ≡ true → Divides Self.Call.request part c };
 }

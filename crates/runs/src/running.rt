@@ -1,6 +1,7 @@
 //! Every call of a list, one after the other.
 ghost use Rattle.std.specs.Prelude.{◌≡◌, ◌<◌, [], map, length, IfOk, None, MatchResult, OnErr, OnOk, slice_index_or};
 ghost use Rattle.book.specs.Book.{after, after_all, answer, answers};
+ghost use Rattle.book.specs.OnTerms.{all_kept_on, answer_on, answers_on, kept_on};
 ghost use Rattle.book.specs.Requests.{AllOver, Over, asked_by, asked_rows, nothing};
 ghost use Rattle.book.specs.Runs.{Booked, Runs};
 ghost use Rattle.output.specs.Rows.{nulls_in, on_rows, row_of};
@@ -18,14 +19,11 @@ fn make_number<'t, L: CallList<'t>, O: Output>(
     out: &mut O,
 ) -> Result<usize, Fault>
     requires { number < length (L.requests calls.now) }
-    ensures answer { result ≡ answer (on_rows (O.rule out.old)) (O.kept out.old) (asked_by (O.taken out.old) (slice_index_or (L.requests calls.now) number nothing)) }
-    ensures kept { O.kept out.new ≡ after (on_rows (O.rule out.old)) (O.kept out.old) (asked_by (O.taken out.old) (slice_index_or (L.requests calls.now) number nothing)) }
-    ensures book { Over (O.base out.old) (slice_index_or (L.requests calls.now) number nothing).drawn → Booked (O.rule out.old) (map row_of (O.kept out.old)) (asked_rows (slice_index_or (L.requests calls.now) number nothing)) result (map row_of (O.kept out.new)) }
+    ensures answer { result ≡ answer_on (O.terms out.old) (O.kept out.old) (slice_index_or (L.requests calls.now) number nothing) }
+    ensures kept { O.kept out.new ≡ kept_on (O.terms out.old) (O.kept out.old) (slice_index_or (L.requests calls.now) number nothing) }
+    ensures book { Over (O.terms out.old).base (slice_index_or (L.requests calls.now) number nothing).drawn → Booked (O.terms out.old).rule (map row_of (O.kept out.old)) (asked_rows (slice_index_or (L.requests calls.now) number nothing)) result (map row_of (O.kept out.new)) }
     ensures pending { O.pending out.new ≡ [] }
-    ensures rule { O.rule out.new ≡ O.rule out.old }
-    ensures base { O.base out.new ≡ O.base out.old }
-    ensures taken { O.taken out.new ≡ O.taken out.old }
-    ensures sizes { O.sizes out.new ≡ O.sizes out.old }
+    ensures terms { O.terms out.new ≡ O.terms out.old }
 {
     match calls.call(number) {
         Some(call) => make(&call, out),
@@ -40,14 +38,11 @@ pub fn run<'t, L: CallList<'t>, O: Output>(
     calls: &L,
     out: &mut O,
 ) -> Result<Vec<Result<usize, Fault>>, AllocError>
-    ensures told { IfOk result (λ v. v.items ≡ answers (on_rows (O.rule out.old)) (O.kept out.old) (map (asked_by (O.taken out.old)) (L.requests calls.now))) }
-    ensures kept { MatchResult result (λ _. O.kept out.new ≡ after_all (on_rows (O.rule out.old)) (O.kept out.old) (map (asked_by (O.taken out.old)) (L.requests calls.now))) (λ _. out.new ≡ out.old) }
-    ensures runs { IfOk result (λ v. AllOver (O.base out.old) (L.requests calls.now) → Runs (O.rule out.old) (map row_of (O.kept out.old)) (map asked_rows (L.requests calls.now)) v.items (map row_of (O.kept out.new))) }
+    ensures told { IfOk result (λ v. v.items ≡ answers_on (O.terms out.old) (O.kept out.old) (L.requests calls.now)) }
+    ensures kept { MatchResult result (λ _. O.kept out.new ≡ all_kept_on (O.terms out.old) (O.kept out.old) (L.requests calls.now)) (λ _. out.new ≡ out.old) }
+    ensures runs { IfOk result (λ v. AllOver (O.terms out.old).base (L.requests calls.now) → Runs (O.terms out.old).rule (map row_of (O.kept out.old)) (map asked_rows (L.requests calls.now)) v.items (map row_of (O.kept out.new))) }
     ensures pending { OnOk result (O.pending out.new ≡ []) }
-    ensures rule { O.rule out.new ≡ O.rule out.old }
-    ensures base { O.base out.new ≡ O.base out.old }
-    ensures taken { O.taken out.new ≡ O.taken out.old }
-    ensures sizes { O.sizes out.new ≡ O.sizes out.old }
+    ensures terms { O.terms out.new ≡ O.terms out.old }
 {
     let mut told = Vec::with_capacity(heap, calls.len())?;
     let slip = out.open();
@@ -72,7 +67,7 @@ pub fn run_and_finish<'t, L: CallList<'t>, O: Output>(
     calls: &L,
     out: O,
 ) -> Finished<O::Memory>
-    ensures runs { IfOk result.told (λ v. AllOver (O.base out) (L.requests calls.now) → Runs (O.rule out) (map row_of (O.kept out)) (map asked_rows (L.requests calls.now)) v.items (O.reading result.memory result.counts)) }
+    ensures runs { IfOk result.told (λ v. AllOver (O.terms out).base (L.requests calls.now) → Runs (O.terms out).rule (map row_of (O.kept out)) (map asked_rows (L.requests calls.now)) v.items (O.reading result.memory result.counts)) }
     ensures untouched { OnErr result.told (O.reading result.memory result.counts ≡ map row_of (O.kept out)) }
     ensures accepted { O.opened result.memory result.counts ≡ None }
     ensures rows { result.counts.rows ≡ length (O.reading result.memory result.counts) }

@@ -2,6 +2,7 @@
 ghost use Rattle.std.specs.Prelude.{◌≡◌, ◌^◌, ◌<◌, true, [], map, length, is_some, IfSome, IfNone, MatchOption, ◌==◌, ◌≢◌};
 ghost use Rattle.book.specs.Book.{after, after_all, answer, answers};
 ghost use Rattle.book.specs.Division.{Agreed, all_taken, parts, sum_told, total};
+ghost use Rattle.book.specs.OnTerms.{all_kept_on, answer_on, answers_on, kept_on};
 ghost use Rattle.book.specs.Requests.{Over, asked_by, asked_rows};
 ghost use Rattle.output.specs.Rows.{on_rows, row_of};
 ghost use Rattle.runs.specs.Covers.{covers};
@@ -41,17 +42,13 @@ fn make_windows<'t, C: Divisible<'t> + Drop, O: Output>(
     requires cuttable { C.cuttable call.now ≡ true }
     requires total { total windows.now ≡ (C.Call.request call.now).size }
     requires fits { total windows.now < 2 ^ 64 }
-    ensures all { result.all ≡ all_taken (answers (on_rows (O.rule out.old)) (O.kept out.old) (map (λ c. asked_by (O.taken out.old) (C.Call.request c)) (parts C.Divisible.part call.now 0 windows.now))) }
-    ensures sum { result.rows ≡ sum_told (answers (on_rows (O.rule out.old)) (O.kept out.old) (map (λ c. asked_by (O.taken out.old) (C.Call.request c)) (parts C.Divisible.part call.now 0 windows.now))) }
-    ensures kept { O.kept out.new ≡ after_all (on_rows (O.rule out.old)) (O.kept out.old) (map (λ c. asked_by (O.taken out.old) (C.Call.request c)) (parts C.Divisible.part call.now 0 windows.now)) }
-    ensures rows { Over (O.base out.old) (C.Call.request call.now).drawn → (result.all ≡ all_taken (answers (O.rule out.old) (map row_of (O.kept out.old)) (map (λ c. asked_rows (C.Call.request c)) (parts C.Divisible.part call.now 0 windows.now)))) × (result.rows ≡ sum_told (answers (O.rule out.old) (map row_of (O.kept out.old)) (map (λ c. asked_rows (C.Call.request c)) (parts C.Divisible.part call.now 0 windows.now)))) × (map row_of (O.kept out.new) ≡ after_all (O.rule out.old) (map row_of (O.kept out.old)) (map (λ c. asked_rows (C.Call.request c)) (parts C.Divisible.part call.now 0 windows.now))) }
+    ensures all { result.all ≡ all_taken (answers (on_rows (O.terms out.old).rule) (O.kept out.old) (map (λ c. asked_by (O.terms out.old).taken (C.Call.request c)) (parts C.Divisible.part call.now 0 windows.now))) }
+    ensures sum { result.rows ≡ sum_told (answers (on_rows (O.terms out.old).rule) (O.kept out.old) (map (λ c. asked_by (O.terms out.old).taken (C.Call.request c)) (parts C.Divisible.part call.now 0 windows.now))) }
+    ensures kept { O.kept out.new ≡ after_all (on_rows (O.terms out.old).rule) (O.kept out.old) (map (λ c. asked_by (O.terms out.old).taken (C.Call.request c)) (parts C.Divisible.part call.now 0 windows.now)) }
+    ensures rows { Over (O.terms out.old).base (C.Call.request call.now).drawn → (result.all ≡ all_taken (answers (O.terms out.old).rule (map row_of (O.kept out.old)) (map (λ c. asked_rows (C.Call.request c)) (parts C.Divisible.part call.now 0 windows.now)))) × (result.rows ≡ sum_told (answers (O.terms out.old).rule (map row_of (O.kept out.old)) (map (λ c. asked_rows (C.Call.request c)) (parts C.Divisible.part call.now 0 windows.now)))) × (map row_of (O.kept out.new) ≡ after_all (O.terms out.old).rule (map row_of (O.kept out.old)) (map (λ c. asked_rows (C.Call.request c)) (parts C.Divisible.part call.now 0 windows.now))) }
     ensures pending { (windows.now ≢ []) → O.pending out.new ≡ [] }
-    ensures rule { O.rule out.new ≡ O.rule out.old }
-    ensures base { O.base out.new ≡ O.base out.old }
-    ensures taken { O.taken out.new ≡ O.taken out.old }
-    ensures sizes { O.sizes out.new ≡ O.sizes out.old }
+    ensures terms { O.terms out.new ≡ O.terms out.old }
 {
-    call.divides();
     let mut at = 0;
     let mut all = true;
     let mut rows = 0;
@@ -73,22 +70,17 @@ pub fn in_windows<'t, C: Divisible<'t> + Drop, O: Output>(
     out: &mut O,
 ) -> Option<Told>
     ensures covers { is_some result ≡ covers (C.cuttable call.now) (C.Call.request call.now).size windows.now }
-    ensures told { MatchOption result (out.new ≡ out.old) (λ told. Agreed (answer (on_rows (O.rule out.old)) (O.kept out.old) (asked_by (O.taken out.old) (C.Call.request call.now))) (after (on_rows (O.rule out.old)) (O.kept out.old) (asked_by (O.taken out.old) (C.Call.request call.now))) told.all told.rows (O.kept out.new)) }
-    ensures kept { IfSome result (λ told. O.kept out.new ≡ after_all (on_rows (O.rule out.old)) (O.kept out.old) (map (λ c. asked_by (O.taken out.old) (C.Call.request c)) (parts C.Divisible.part call.now 0 windows.now))) }
-    ensures book { IfSome result (λ told. Over (O.base out.old) (C.Call.request call.now).drawn → Agreed (answer (O.rule out.old) (map row_of (O.kept out.old)) (asked_rows (C.Call.request call.now))) (after (O.rule out.old) (map row_of (O.kept out.old)) (asked_rows (C.Call.request call.now))) told.all told.rows (map row_of (O.kept out.new))) }
+    ensures told { MatchOption result (out.new ≡ out.old) (λ told. Agreed (answer_on (O.terms out.old) (O.kept out.old) (C.Call.request call.now)) (kept_on (O.terms out.old) (O.kept out.old) (C.Call.request call.now)) told.all told.rows (O.kept out.new)) }
+    ensures kept { IfSome result (λ told. O.kept out.new ≡ after_all (on_rows (O.terms out.old).rule) (O.kept out.old) (map (λ c. asked_by (O.terms out.old).taken (C.Call.request c)) (parts C.Divisible.part call.now 0 windows.now))) }
+    ensures book { IfSome result (λ told. Over (O.terms out.old).base (C.Call.request call.now).drawn → Agreed (answer (O.terms out.old).rule (map row_of (O.kept out.old)) (asked_rows (C.Call.request call.now))) (after (O.terms out.old).rule (map row_of (O.kept out.old)) (asked_rows (C.Call.request call.now))) told.all told.rows (map row_of (O.kept out.new))) }
     ensures pending { IfSome result (λ told. O.pending out.new ≡ []) }
-    ensures rule { O.rule out.new ≡ O.rule out.old }
-    ensures base { O.base out.new ≡ O.base out.old }
-    ensures taken { O.taken out.new ≡ O.taken out.old }
-    ensures sizes { O.sizes out.new ≡ O.sizes out.old }
-    ensures memory { IfSome result (λ told. told.all ≡ true → (whole : O) → O.sizes whole ≡ O.sizes out.old → O.kept whole ≡ after (on_rows (O.rule out.old)) (O.kept out.old) (asked_by (O.taken out.old) (C.Call.request call.now)) → O.pending whole ≡ [] → O.memory out.new ≡ O.memory whole) }
+    ensures terms { O.terms out.new ≡ O.terms out.old }
+    ensures memory { IfSome result (λ told. told.all ≡ true → (whole : O) → (O.terms whole).sizes ≡ (O.terms out.old).sizes → O.kept whole ≡ kept_on (O.terms out.old) (O.kept out.old) (C.Call.request call.now) → O.pending whole ≡ [] → O.memory out.new ≡ O.memory whole) }
 {
     if windows.len() == 0 || !call.is_cuttable() || !total_is(windows, call.rows()) {
         return None;
     }
-    call.divides();
     let told = make_windows(call, windows, out);
-    out.fixed();
     Some(told)
 }
 
@@ -110,9 +102,9 @@ pub fn divided<'t, C: Divisible<'t> + Drop, O: Output>(
 ) -> Option<BothTold>
     ensures covers { is_some result ≡ covers (C.cuttable call.now) (C.Call.request call.now).size windows.now }
     ensures nothing { IfNone result ((a.new ≡ a.old) × (b.new ≡ b.old)) }
-    ensures whole { IfSome result (λ d. d.whole ≡ answer (on_rows (O.rule a.old)) (O.kept a.old) (asked_by (O.taken a.old) (C.Call.request call.now))) }
-    ensures agreed { IfSome result (λ d. O.rule a.old ≡ O.rule b.old → O.taken a.old ≡ O.taken b.old → O.kept a.old ≡ O.kept b.old → Agreed d.whole (O.kept a.new) d.windows.all d.windows.rows (O.kept b.new)) }
-    ensures memory { IfSome result (λ d. O.rule a.old ≡ O.rule b.old → O.taken a.old ≡ O.taken b.old → O.kept a.old ≡ O.kept b.old → O.sizes a.old ≡ O.sizes b.old → d.windows.all ≡ true → O.memory a.new ≡ O.memory b.new) }
+    ensures whole { IfSome result (λ d. d.whole ≡ answer_on (O.terms a.old) (O.kept a.old) (C.Call.request call.now)) }
+    ensures agreed { IfSome result (λ d. (O.terms a.old).rule ≡ (O.terms b.old).rule → (O.terms a.old).taken ≡ (O.terms b.old).taken → O.kept a.old ≡ O.kept b.old → Agreed d.whole (O.kept a.new) d.windows.all d.windows.rows (O.kept b.new)) }
+    ensures memory { IfSome result (λ d. (O.terms a.old).rule ≡ (O.terms b.old).rule → (O.terms a.old).taken ≡ (O.terms b.old).taken → O.kept a.old ≡ O.kept b.old → (O.terms a.old).sizes ≡ (O.terms b.old).sizes → d.windows.all ≡ true → O.memory a.new ≡ O.memory b.new) }
 {
     let windows = in_windows(call, windows, b)?;
     let whole = make(call, a);

@@ -1,103 +1,103 @@
-use Rattle.std.proofs.Common.{◌≡◌, ◌<◌, [], ◌∷◌, ◌++◌, map, Some, None, Err, sym, ap, ◌∙◌, append_assoc, arith}
+use Rattle.std.proofs.Common.{◌≡◌, ◌<◌, [], ◌∷◌, ◌++◌, map, Some, None, Ok, Err, sym, ap, ◌∙◌, append_assoc, arith}
 use Rattle.std.proofs.lemmas.Result.{err_from_is_err_and}
 use Rattle.book.proofs.Feeding.{fed_end}
 use Rattle.book.specs.Requests.{each_offer}
 use Rattle.output.specs.Pieces.{piece_of}
-use Rattle.output.specs.Rows.{on_rows, row_of}
-use Rattle.calls.specs.Offers.{ended}
-use Rattle.calls.proofs.Filling.{comes_over, pieces_bad, pieces_refused, pieces_taken, rows_bad, rows_refused, rows_taken}
+use Rattle.output.specs.Rows.{grown, on_rows, row_of}
+use Rattle.source.specs.Verdicts.{fault_of}
+use Rattle.calls.specs.Offers.{ended, offered}
+use Rattle.calls.proofs.Filling.{comes_over, drawn_piece, pieces_bad, pieces_refused, pieces_taken, placed_err, placed_ok, rows_bad, rows_refused, rows_taken}
 use Rattle.calls.proofs.making.fill.Goals as goal
 
 pub returns-in_err-piece : goal.returns-in_err-piece
 returns-in_err-piece g c =
     let O = g.O.Output in
     let o = c.args.out.now in
+    let t = O.terms o in
     let q = g.C.Call.request c.args.call.now in
     let i = c.loop-row.invariant in
     let k = c.loop-row.row in
     let h : k < q.size = omega arith in
     let ps = O.kept o ++ O.pending c.loop-row.out in
     let p = err_from_is_err_and c.from_residual.result c.from_residual.ensures.1 in
-    let fault = c.in_err-piece.field-0.0 in
-    let is : c.from_residual.result ≡ Err fault = p.1 ∙ ap Err p.2 in
-    let bad : q.offer k ≡ Err fault = sym c.in_err-piece.ensures.offer in
+    let e = placed_err c.row.result k c.in_err-piece.field-0.0 (sym c.at_row.ensures ∙ c.in_err-piece.was) in
+    let bad : q.offer k ≡ Err e.0 = sym c.row.ensures.offer ∙ ap offered e.1 in
+    let is : c.from_residual.result ≡ Err c.in_err-piece.field-0.0 = p.1 ∙ ap Err p.2 in
     record {
       kept = i.0;
-      rule = i.1;
-      base = i.2;
-      taken = i.3;
-      sizes = i.4;
-      pieces = ap (λ r. ended r ps k) is ∙ sym (pieces_bad q k h (O.rule o) ps (O.taken o) fault bad) ∙ i.5;
-      rows = λ over. ap (λ r. ended r (map row_of ps) k) is ∙ sym (rows_bad q k h (O.rule o) ps (O.taken o) fault bad) ∙ i.6 over;
+      terms = i.1;
+      pieces = ap (λ r. ended r ps) is ∙ ap Err (sym e.2) ∙ sym (pieces_bad q k h t.rule ps t.taken e.0 bad) ∙ i.2;
+      rows = λ over. ap (λ r. ended r (map row_of ps)) is ∙ ap Err (sym e.2) ∙ sym (rows_bad q k h t.rule ps t.taken e.0 bad) ∙ i.3 over;
     }
 
-pub returns-in_err-add : goal.returns-in_err-add
-returns-in_err-add g c =
+pub returns-in_err-at_row : goal.returns-in_err-at_row
+returns-in_err-at_row g c =
     let O = g.O.Output in
     let o = c.args.out.now in
+    let t = O.terms o in
     let q = g.C.Call.request c.args.call.now in
     let i = c.loop-row.invariant in
     let k = c.loop-row.row in
     let h : k < q.size = omega arith in
     let ps = O.kept o ++ O.pending c.loop-row.out in
-    let p = err_from_is_err_and c.from_residual-in_err-add.result c.from_residual-in_err-add.ensures.1 in
-    let fault = c.in_err-add.field-0.0 in
-    let is : c.from_residual-in_err-add.result ≡ Err fault = p.1 ∙ ap Err p.2 in
+    let p = err_from_is_err_and c.from_residual-in_err-at_row.result c.from_residual-in_err-at_row.ensures.1 in
+    let e = placed_err c.add.result k c.in_err-at_row.field-0.0 (sym c.at_row-in-loop-row.ensures ∙ c.in_err-at_row.was) in
+    let is : c.from_residual-in_err-at_row.result ≡ Err c.in_err-at_row.field-0.0 = p.1 ∙ ap Err p.2 in
     let piece = piece_of c.in_ok-piece.piece in
-    let row = c.in_ok-piece.ensures in
-    let a = c.in_err-add.ensures in
-    let v : O.rule o (map row_of ps) (row_of (O.taken o piece)) ≡ Some fault = cc in
-    let left : O.kept o ++ O.pending c.add.new.self ≡ ps = ap (λ r. O.kept o ++ r) a.pending in
+    let is_row = placed_ok c.row.result k c.in_ok-piece.piece (sym c.at_row.ensures ∙ c.in_ok-piece.was) in
+    let offer : q.offer k ≡ Ok piece = sym c.row.ensures.offer ∙ ap offered is_row in
+    let a = c.add.ensures in
+    let v : t.rule (map row_of ps) (row_of (t.taken piece)) ≡ Some e.0
+    = sym (a.verdict ∙ ap (λ k. (O.terms c.loop-row.out).rule (map row_of (k ++ O.pending c.loop-row.out)) (row_of ((O.terms c.loop-row.out).taken piece))) i.0
+    ∙ ap (λ u. u.rule (map row_of ps) (row_of (u.taken piece))) i.1) ∙ ap fault_of e.1 in
+    let left : O.kept o ++ O.pending c.add.new.self ≡ ps = ap (λ r. O.kept o ++ r) (a.pending ∙ ap (λ r. grown r (O.pending c.loop-row.out) ((O.terms c.loop-row.out).taken piece)) e.1) in
     record {
       kept = a.kept ∙ i.0;
-      rule = a.rule ∙ i.1;
-      base = a.base ∙ i.2;
-      taken = a.taken ∙ i.3;
-      sizes = a.sizes ∙ i.4;
-      pieces = ap (λ r. ended r (O.kept o ++ O.pending c.add.new.self) k) is ∙ sym (pieces_refused q k h (O.rule o) ps (O.taken o) piece (sym row.offer) fault v) ∙ i.5;
-      rows = λ over. ap (λ r. ended r (map row_of (O.kept o ++ O.pending c.add.new.self)) k) is
-          ∙ sym (rows_refused q k h (O.rule o) ps (O.taken o) piece (sym row.offer) (c.faithful.ensures piece (comes_over (O.base o) q.drawn piece over row.drawn)) fault v)
-          ∙ i.6 over;
+      terms = a.terms ∙ i.1;
+      pieces = ap (λ r. ended r (O.kept o ++ O.pending c.add.new.self)) is ∙ ap Err (sym e.2) ∙ sym (pieces_refused q k h t.rule ps t.taken piece offer e.0 v) ∙ i.2;
+      rows = λ over. ap (λ r. ended r (map row_of (O.kept o ++ O.pending c.add.new.self))) is ∙ ap Err (sym e.2)
+          ∙ sym (rows_refused q k h t.rule ps t.taken piece offer (g.met.O.Output.faithful o piece (comes_over t.base q.drawn piece over (drawn_piece q.drawn c.row.result c.in_ok-piece.piece is_row c.row.ensures.drawn))) e.0 v)
+          ∙ i.3 over;
     }
 
 pub loop-row-preserved : goal.loop-row-preserved
 loop-row-preserved g c =
     let O = g.O.Output in
     let o = c.args.out.now in
+    let t = O.terms o in
     let q = g.C.Call.request c.args.call.now in
     let i = c.loop-row.invariant in
     let k = c.loop-row.row in
     let h : k < q.size = omega arith in
     let ps = O.kept o ++ O.pending c.loop-row.out in
     let piece = piece_of c.in_ok-piece.piece in
-    let row = c.in_ok-piece.ensures in
-    let a = c.in_ok-add.ensures in
-    let v : O.rule o (map row_of ps) (row_of (O.taken o piece)) ≡ None = cc in
-    let more : O.kept o ++ O.pending c.add.new.self ≡ ps ++ O.taken o piece ∷ [] =
-    ap (λ r. O.kept o ++ r) (a.pending ∙ ap (λ f. O.pending c.loop-row.out ++ f piece ∷ []) i.3) ∙ sym (append_assoc (O.kept o) (O.pending c.loop-row.out) (O.taken o piece ∷ [])) in (
+    let is_row = placed_ok c.row.result k c.in_ok-piece.piece (sym c.at_row.ensures ∙ c.in_ok-piece.was) in
+    let offer : q.offer k ≡ Ok piece = sym c.row.ensures.offer ∙ ap offered is_row in
+    let added = placed_ok c.add.result k c.in_ok-at_row.field-0 (sym c.at_row-in-loop-row.ensures ∙ c.in_ok-at_row.was) in
+    let a = c.add.ensures in
+    let v : t.rule (map row_of ps) (row_of (t.taken piece)) ≡ None
+    = sym (a.verdict ∙ ap (λ k. (O.terms c.loop-row.out).rule (map row_of (k ++ O.pending c.loop-row.out)) (row_of ((O.terms c.loop-row.out).taken piece))) i.0
+    ∙ ap (λ u. u.rule (map row_of ps) (row_of (u.taken piece))) i.1) ∙ ap fault_of added in
+    let more : O.kept o ++ O.pending c.add.new.self ≡ ps ++ t.taken piece ∷ []
+    = ap (λ r. O.kept o ++ r) (a.pending ∙ ap (λ r. grown r (O.pending c.loop-row.out) ((O.terms c.loop-row.out).taken piece)) added ∙ ap (λ u. O.pending c.loop-row.out ++ u.taken piece ∷ []) i.1)
+    ∙ sym (append_assoc (O.kept o) (O.pending c.loop-row.out) (t.taken piece ∷ [])) in (
       a.kept ∙ i.0,
-      a.rule ∙ i.1,
-      a.base ∙ i.2,
-      a.taken ∙ i.3,
-      a.sizes ∙ i.4,
-      rw more (sym (pieces_taken q k h (O.rule o) ps (O.taken o) piece (sym row.offer) v) ∙ i.5),
-      λ over. rw more (sym (rows_taken q k h (O.rule o) ps (O.taken o) piece (sym row.offer) (c.faithful.ensures piece (comes_over (O.base o) q.drawn piece over row.drawn)) v) ∙ i.6 over),
+      a.terms ∙ i.1,
+      rw more (sym (pieces_taken q k h t.rule ps t.taken piece offer v) ∙ i.2),
+      λ over. rw more (sym (rows_taken q k h t.rule ps t.taken piece offer (g.met.O.Output.faithful o piece (comes_over t.base q.drawn piece over (drawn_piece q.drawn c.row.result c.in_ok-piece.piece is_row c.row.ensures.drawn))) v) ∙ i.3 over),
     )
 
 pub returns : goal.returns
 returns g c =
     let O = g.O.Output in
-    let o = c.args.out.now in
+    let t = O.terms c.args.out.now in
     let q = g.C.Call.request c.args.call.now in
     let i = c.loop-row.invariant in
     let k = c.loop-row.row in
-    let ps = O.kept o ++ O.pending c.loop-row.out in
+    let ps = O.kept c.args.out.now ++ O.pending c.loop-row.out in
     record {
       kept = i.0;
-      rule = i.1;
-      base = i.2;
-      taken = i.3;
-      sizes = i.4;
-      pieces = sym (fed_end (λ j. each_offer (O.taken o) (q.offer j)) q.size k (on_rows (O.rule o)) ps (omega arith)) ∙ i.5;
-      rows = λ over. sym (fed_end (λ j. each_offer row_of (q.offer j)) q.size k (O.rule o) (map row_of ps) (omega arith)) ∙ i.6 over;
+      terms = i.1;
+      pieces = sym (fed_end (λ j. each_offer t.taken (q.offer j)) q.size k (on_rows t.rule) ps (omega arith)) ∙ i.2;
+      rows = λ over. sym (fed_end (λ j. each_offer row_of (q.offer j)) q.size k t.rule (map row_of ps) (omega arith)) ∙ i.3 over;
     }

@@ -1,101 +1,61 @@
-use Rattle.std.proofs.Common.{◌≡◌, ℕ, Bool, true, false, [], ◌++◌, map, Some, None, Ok, Err, sym, refl, ap, ◌∙◌, arith}
-use Rattle.fault.specs.Faults.{placed_at}
+use Rattle.std.proofs.Common.{◌≡◌, ◌++◌, map, Ok, Err, sym, refl, ap, ◌∙◌}
+use Rattle.std.proofs.lemmas.Result.{err_from_is_err_and}
 use Rattle.output.specs.Rows.{row_of}
-use Rattle.calls.proofs.Made.{accepted_answer, accepted_booked, accepted_kept, early_answer, early_booked, early_kept, pieces_found, refused_answer, refused_booked, refused_kept, rows_found}
+use Rattle.source.specs.Verdicts.{fault_of}
+use Rattle.calls.proofs.Made.{accepted_answer, accepted_booked, early_booked, pieces_found, refused_booked, rows_found}
 use Rattle.calls.proofs.making.make.Goals as goal
 
-apart : ◌≡◌ {A = Bool} true false → ⊥
-apart e = let z : ◌≡◌ {A = ℕ} 0 1 = cc in omega arith
-
-pub returns-in-Some : goal.returns-in-Some
-returns-in-Some g c =
+pub returns-in_err-start-clause-book : goal.returns-in_err-start-clause-book
+returns-in_err-start-clause-book g c over =
     let O = g.O.Output in
     let o = c.args.out.now in
     let q = g.C.Call.request c.args.call.now in
-    let fault = c.in-Some.fault in
-    let a = c.open-slip.ensures in
-    let d = c.discard.ensures in
-    let last = O.kept c.discard.new.self in
-    let start : q.start ≡ Some fault = sym c.in-Some.ensures in
-    let kept : last ≡ O.kept o = d.kept ∙ a.kept in
-    record {
-      answer = early_answer q (O.rule o) (O.kept o) (O.taken o) (Err fault) last fault start refl kept;
-      kept = early_kept q (O.rule o) (O.kept o) (O.taken o) (Err fault) last fault start refl kept;
-      book = λ over. early_booked q (O.rule o) (O.kept o) (O.taken o) (Err fault) last fault start refl kept;
-      pending = d.pending;
-      rule = d.rule ∙ a.rule;
-      base = d.base ∙ a.base;
-      taken = d.taken ∙ a.taken;
-      sizes = d.sizes ∙ a.sizes;
-      memory = λ _ found s k p. c.fixed.ensures found (d.sizes ∙ a.sizes ∙ sym s) (kept ∙ sym k) (d.pending ∙ sym p);
-    }
+    let fault = c.in_err-start.field-0.0 in
+    let p = err_from_is_err_and c.from_residual.result c.from_residual.ensures.1 in
+    early_booked q (O.terms o) (O.kept o) c.from_residual.result (O.kept c.discard.new.self) fault
+    (sym c.start.ensures ∙ ap fault_of c.in_err-start.was) (p.1 ∙ ap Err p.2) (c.discard.ensures.kept ∙ c.open-slip.ensures.kept)
 
-pub returns-in-Err : goal.returns-in-Err
-returns-in-Err g c =
+pub returns-in-Err-clause-book : goal.returns-in-Err-clause-book
+returns-in-Err-clause-book g c over =
     let O = g.O.Output in
     let o = c.args.out.now in
     let p = c.open-slip-2.new.self in
     let q = g.C.Call.request c.args.call.now in
-    let fault = placed_at c.fill.new.at c.in-Err.fault in
-    let a = c.open-slip.ensures in
     let d = c.discard.ensures in
     let b = c.open-slip-2.ensures in
     let e = c.in-Err.ensures in
-    let z = c.discard-in-Err.ensures in
-    let last = O.kept c.discard-in-Err.new.self in
-    let start : q.start ≡ None = sym c.in_default.ensures in
-    let rule : O.rule p ≡ O.rule o = b.rule ∙ d.rule ∙ a.rule in
-    let base : O.base p ≡ O.base o = b.base ∙ d.base ∙ a.base in
-    let taken : O.taken p ≡ O.taken o = b.taken ∙ d.taken ∙ a.taken in
-    let before : O.kept p ≡ O.kept o = b.kept ∙ d.kept ∙ a.kept in
-    let none : O.pending p ≡ [] = b.pending ∙ d.pending in
-    let kept : last ≡ O.kept o = z.kept ∙ e.kept ∙ before in
-    let sizes : O.sizes c.discard-in-Err.new.self ≡ O.sizes o = z.sizes ∙ e.sizes ∙ b.sizes ∙ d.sizes ∙ a.sizes in
-    let pieces = pieces_found q (O.rule o) (O.rule p) (O.kept o) (O.kept p) (O.pending p) (O.taken o) (O.taken p) rule before none taken (Err fault) e.pieces in
-    record {
-      answer = ap Err c.at.ensures ∙ refused_answer q (O.rule o) (O.kept o) (O.taken o) (Err fault) last start fault refl kept pieces;
-      kept = refused_kept q (O.rule o) (O.kept o) (O.taken o) (Err fault) last start fault refl kept pieces;
-      book = λ over.
-          let rows = rows_found q (O.rule o) (O.rule p) (O.kept o) (O.kept p) (O.pending p) (O.taken o) (O.taken p) rule before none taken (Err fault) (e.rows (rw base over)) in
-          refused_booked q (O.rule o) (O.kept o) (O.taken o) (Err c.at.result) last start fault (ap Err c.at.ensures) kept rows;
-      pending = z.pending;
-      rule = z.rule ∙ e.rule ∙ rule;
-      base = z.base ∙ e.base ∙ base;
-      taken = z.taken ∙ e.taken ∙ taken;
-      sizes = sizes;
-      memory = λ _ found s k n. c.fixed-in-Err.ensures found (sizes ∙ sym s) (kept ∙ sym k) (z.pending ∙ sym n);
-    }
+    let before = b.kept ∙ d.kept ∙ c.open-slip.ensures.kept in
+    let terms = b.terms ∙ d.terms ∙ c.open-slip.ensures.terms in
+    let rows = rows_found q (O.terms o) (O.terms p) (O.kept o) (O.kept p) (O.pending p) terms before (b.pending ∙ d.pending) (Err c.in-Err.fault) (e.rows (rw terms over)) in
+    refused_booked q (O.terms o) (O.kept o) (Err c.in-Err.fault) (O.kept c.discard-in-Err.new.self) (sym c.start.ensures ∙ ap fault_of c.in_ok-start.was) c.in-Err.fault refl (c.discard-in-Err.ensures.kept ∙ e.kept ∙ before) rows
 
-pub returns-in-Ok : goal.returns-in-Ok
-returns-in-Ok g c =
+pub returns-in-Ok-clause-answer : goal.returns-in-Ok-clause-answer
+returns-in-Ok-clause-answer g c =
     let O = g.O.Output in
     let o = c.args.out.now in
     let p = c.open-slip-2.new.self in
     let q = g.C.Call.request c.args.call.now in
-    let a = c.open-slip.ensures in
     let d = c.discard.ensures in
     let b = c.open-slip-2.ensures in
     let e = c.in-Ok.ensures in
-    let z = c.keep.ensures in
     let last = O.kept c.keep.new.self in
-    let start : q.start ≡ None = sym c.in_default.ensures in
-    let rule : O.rule p ≡ O.rule o = b.rule ∙ d.rule ∙ a.rule in
-    let base : O.base p ≡ O.base o = b.base ∙ d.base ∙ a.base in
-    let taken : O.taken p ≡ O.taken o = b.taken ∙ d.taken ∙ a.taken in
-    let before : O.kept p ≡ O.kept o = b.kept ∙ d.kept ∙ a.kept in
-    let none : O.pending p ≡ [] = b.pending ∙ d.pending in
-    let all : last ≡ O.kept p ++ O.pending c.fill.new.out = z.kept ∙ ap (λ k. k ++ O.pending c.fill.new.out) e.kept in
-    let pieces = pieces_found q (O.rule o) (O.rule p) (O.kept o) (O.kept p) (O.pending p) (O.taken o) (O.taken p) rule before none taken (Ok last) (ap Ok all ∙ e.pieces) in
-    record {
-      answer = accepted_answer q (O.rule o) (O.kept o) (O.taken o) (Ok c.rows-rows.result) last start (ap Ok c.rows-rows.ensures) pieces;
-      kept = accepted_kept q (O.rule o) (O.kept o) (O.taken o) (Ok c.rows-rows.result) last start (ap Ok c.rows-rows.ensures) pieces;
-      book = λ over.
-          let rows = rows_found q (O.rule o) (O.rule p) (O.kept o) (O.kept p) (O.pending p) (O.taken o) (O.taken p) rule before none taken (Ok (map row_of last)) (ap (λ k. Ok (map row_of k)) all ∙ e.rows (rw base over)) in
-          accepted_booked q (O.rule o) (O.kept o) (O.taken o) (Ok c.rows-rows.result) last start (ap Ok c.rows-rows.ensures) rows;
-      pending = z.pending;
-      rule = z.rule ∙ e.rule ∙ rule;
-      base = z.base ∙ e.base ∙ base;
-      taken = z.taken ∙ e.taken ∙ taken;
-      sizes = z.sizes ∙ e.sizes ∙ b.sizes ∙ d.sizes ∙ a.sizes;
-      memory = λ e. absurd (apart e);
-    }
+    let all : last ≡ O.kept p ++ O.pending c.fill.new.out = c.keep.ensures.kept ∙ ap (λ k. k ++ O.pending c.fill.new.out) e.kept in
+    let pieces = pieces_found q (O.terms o) (O.terms p) (O.kept o) (O.kept p) (O.pending p) (b.terms ∙ d.terms ∙ c.open-slip.ensures.terms) (b.kept ∙ d.kept ∙ c.open-slip.ensures.kept)
+    (b.pending ∙ d.pending) (Ok last) (ap Ok all ∙ e.pieces) in
+    accepted_answer q (O.terms o) (O.kept o) (Ok c.rows-rows.result) last (sym c.start.ensures ∙ ap fault_of c.in_ok-start.was) (ap Ok c.rows-rows.ensures) pieces
+
+pub returns-in-Ok-clause-book : goal.returns-in-Ok-clause-book
+returns-in-Ok-clause-book g c over =
+    let O = g.O.Output in
+    let o = c.args.out.now in
+    let p = c.open-slip-2.new.self in
+    let q = g.C.Call.request c.args.call.now in
+    let d = c.discard.ensures in
+    let b = c.open-slip-2.ensures in
+    let e = c.in-Ok.ensures in
+    let last = O.kept c.keep.new.self in
+    let all : last ≡ O.kept p ++ O.pending c.fill.new.out = c.keep.ensures.kept ∙ ap (λ k. k ++ O.pending c.fill.new.out) e.kept in
+    let terms = b.terms ∙ d.terms ∙ c.open-slip.ensures.terms in
+    let rows = rows_found q (O.terms o) (O.terms p) (O.kept o) (O.kept p) (O.pending p) terms (b.kept ∙ d.kept ∙ c.open-slip.ensures.kept)
+    (b.pending ∙ d.pending) (Ok (map row_of last)) (ap (λ k. Ok (map row_of k)) all ∙ e.rows (rw terms over)) in
+    accepted_booked q (O.terms o) (O.kept o) (Ok c.rows-rows.result) last (sym c.start.ensures ∙ ap fault_of c.in_ok-start.was) (ap Ok c.rows-rows.ensures) rows

@@ -1,7 +1,5 @@
 use Rattle.std.proofs.Common.{sym, ap, ◌∙◌}
-use Rattle.book.specs.Book.{after, answer}
-use Rattle.book.specs.Requests.{asked_by}
-use Rattle.output.specs.Rows.{on_rows}
+use Rattle.book.specs.OnTerms.{answer_on, kept_on}
 use Rattle.runs.proofs.Calls.{call_is, call_there}
 use Rattle.runs.proofs.running.make_number.Goals as goal
 
@@ -15,12 +13,9 @@ returns g c =
     let m = c.make.ensures in
     let is = call_is (g.L.CallList.requests c.args.calls.now) c.args.number c.requires (g.L.Item.Call.request c.in-Some.call) c.in-Some.ensures in
     record {
-      answer = m.answer ∙ ap (λ q. answer (on_rows (O.rule o)) (O.kept o) (asked_by (O.taken o) q)) is;
-      kept = m.kept ∙ ap (λ q. after (on_rows (O.rule o)) (O.kept o) (asked_by (O.taken o) q)) is;
+      answer = m.answer ∙ ap (answer_on (O.terms o) (O.kept o)) is;
+      kept = m.kept ∙ ap (kept_on (O.terms o) (O.kept o)) is;
       book = rw (sym is) m.book;
       pending = m.pending;
-      rule = m.rule;
-      base = m.base;
-      taken = m.taken;
-      sizes = m.sizes;
+      terms = m.terms;
     }

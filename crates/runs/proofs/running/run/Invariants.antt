@@ -1,26 +1,23 @@
 use Rattle.std.proofs.Common.{◌≡◌, ◌≤◌, [], ◌++◌, map, length, drop, vec_items, vec_len, vec_capacity}
 use Rattle.book.specs.Book.{after_all, answers}
-use Rattle.book.specs.Requests.{AllOver, asked_by, asked_rows}
-use Rattle.output.specs.Rows.{on_rows, row_of}
+use Rattle.book.specs.OnTerms.{all_kept_on, answers_on}
+use Rattle.book.specs.Requests.{AllOver, asked_rows}
+use Rattle.output.specs.Rows.{row_of}
 use Rattle.runs.proofs.running.run.Given as goal
 
 -- what is left gives what the whole list gives, by pieces and by rows
 abbrev pub invariant-loop-number : goal.invariant-loop-number
 invariant-loop-number g l =
+    let O = g.O.Output in
+    let o = l.initial.out in
+    let t = O.terms o in
+    let qs = g.L.CallList.requests l.calls in
+    let left = drop l.number qs in
     (vec_len l.told ≡ l.number)
-    × (length (g.L.CallList.requests l.calls) ≤ vec_capacity l.told)
-    × (g.O.Output.pending l.out ≡ [])
-    × (g.O.Output.rule l.out ≡ g.O.Output.rule l.initial.out)
-    × (g.O.Output.base l.out ≡ g.O.Output.base l.initial.out)
-    × (g.O.Output.taken l.out ≡ g.O.Output.taken l.initial.out)
-    × (g.O.Output.sizes l.out ≡ g.O.Output.sizes l.initial.out)
-    × (after_all (on_rows (g.O.Output.rule l.initial.out)) (g.O.Output.kept l.out) (map (asked_by (g.O.Output.taken l.initial.out)) (drop l.number (g.L.CallList.requests l.calls)))
-    ≡ after_all (on_rows (g.O.Output.rule l.initial.out)) (g.O.Output.kept l.initial.out) (map (asked_by (g.O.Output.taken l.initial.out)) (g.L.CallList.requests l.calls)))
-    × (vec_items l.told ++ answers (on_rows (g.O.Output.rule l.initial.out)) (g.O.Output.kept l.out) (map (asked_by (g.O.Output.taken l.initial.out)) (drop l.number (g.L.CallList.requests l.calls)))
-    ≡ answers (on_rows (g.O.Output.rule l.initial.out)) (g.O.Output.kept l.initial.out) (map (asked_by (g.O.Output.taken l.initial.out)) (g.L.CallList.requests l.calls)))
-    × (AllOver (g.O.Output.base l.initial.out) (g.L.CallList.requests l.calls)
-    → after_all (g.O.Output.rule l.initial.out) (map row_of (g.O.Output.kept l.out)) (map asked_rows (drop l.number (g.L.CallList.requests l.calls)))
-    ≡ after_all (g.O.Output.rule l.initial.out) (map row_of (g.O.Output.kept l.initial.out)) (map asked_rows (g.L.CallList.requests l.calls)))
-    × (AllOver (g.O.Output.base l.initial.out) (g.L.CallList.requests l.calls)
-    → vec_items l.told ++ answers (g.O.Output.rule l.initial.out) (map row_of (g.O.Output.kept l.out)) (map asked_rows (drop l.number (g.L.CallList.requests l.calls)))
-    ≡ answers (g.O.Output.rule l.initial.out) (map row_of (g.O.Output.kept l.initial.out)) (map asked_rows (g.L.CallList.requests l.calls)))
+    × (length qs ≤ vec_capacity l.told)
+    × (O.pending l.out ≡ [])
+    × (O.terms l.out ≡ t)
+    × (all_kept_on t (O.kept l.out) left ≡ all_kept_on t (O.kept o) qs)
+    × (vec_items l.told ++ answers_on t (O.kept l.out) left ≡ answers_on t (O.kept o) qs)
+    × (AllOver t.base qs → after_all t.rule (map row_of (O.kept l.out)) (map asked_rows left) ≡ after_all t.rule (map row_of (O.kept o)) (map asked_rows qs))
+    × (AllOver t.base qs → vec_items l.told ++ answers t.rule (map row_of (O.kept l.out)) (map asked_rows left) ≡ answers t.rule (map row_of (O.kept o)) (map asked_rows qs))

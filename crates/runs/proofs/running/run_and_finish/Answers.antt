@@ -25,7 +25,7 @@ returns g c =
     let e = c.finish-memory.ensures in
     record {
       runs = made_more c.run-told.result _ _
-          (λ v p over. let P : List Row → Type 0 = λ rows. Runs (O.rule o) (map row_of (O.kept o)) (map asked_rows qs) (vec_items v) rows in subst P (sym e.reading) (p over))
+          (λ v p over. let P : List Row → Type 0 = λ rows. Runs (O.terms o).rule (map row_of (O.kept o)) (map asked_rows qs) (vec_items v) rows in subst P (sym e.reading) (p over))
           c.run-told.ensures.runs;
       untouched = as_found c.run-told.result _ o last (λ x. map row_of (O.kept x)) _ c.run-told.ensures.kept e.reading;
       accepted = e.accepted;

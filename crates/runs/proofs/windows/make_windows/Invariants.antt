@@ -8,23 +8,21 @@ use Rattle.runs.proofs.windows.make_windows.Given as goal
 -- what the windows left give, with what was told so far, is what all windows give, by pieces and by rows
 abbrev pub invariant-loop-window : goal.invariant-loop-window
 invariant-loop-window g l =
+    let O = g.O.Output in
+    let o = l.initial.out in
+    let t = O.terms o in
+    let ask = λ (y : g.row.C.Denot). asked_by t.taken (g.C.Call.request y) in
+    let ask_rows = λ (y : g.row.C.Denot). asked_rows (g.C.Call.request y) in
+    let all = parts g.C.Divisible.part l.call 0 l.windows in
+    let left = parts g.C.Divisible.part l.call l.at (drop l.window-index l.windows) in
     (l.at + total (drop l.window-index l.windows) ≡ total l.windows)
     × (l.rows ≤ l.at)
-    × (g.O.Output.rule l.out ≡ g.O.Output.rule l.initial.out)
-    × (g.O.Output.base l.out ≡ g.O.Output.base l.initial.out)
-    × (g.O.Output.taken l.out ≡ g.O.Output.taken l.initial.out)
-    × (g.O.Output.sizes l.out ≡ g.O.Output.sizes l.initial.out)
-    × (0 < l.window-index → g.O.Output.pending l.out ≡ [])
-    × (after_all (on_rows (g.O.Output.rule l.initial.out)) (g.O.Output.kept l.out) (map (λ c. asked_by (g.O.Output.taken l.initial.out) (g.C.Call.request c)) (parts g.C.Divisible.part l.call l.at (drop l.window-index l.windows)))
-    ≡ after_all (on_rows (g.O.Output.rule l.initial.out)) (g.O.Output.kept l.initial.out) (map (λ c. asked_by (g.O.Output.taken l.initial.out) (g.C.Call.request c)) (parts g.C.Divisible.part l.call 0 l.windows)))
-    × (cond l.all (all_taken (answers (on_rows (g.O.Output.rule l.initial.out)) (g.O.Output.kept l.out) (map (λ c. asked_by (g.O.Output.taken l.initial.out) (g.C.Call.request c)) (parts g.C.Divisible.part l.call l.at (drop l.window-index l.windows))))) false
-    ≡ all_taken (answers (on_rows (g.O.Output.rule l.initial.out)) (g.O.Output.kept l.initial.out) (map (λ c. asked_by (g.O.Output.taken l.initial.out) (g.C.Call.request c)) (parts g.C.Divisible.part l.call 0 l.windows))))
-    × (l.rows + sum_told (answers (on_rows (g.O.Output.rule l.initial.out)) (g.O.Output.kept l.out) (map (λ c. asked_by (g.O.Output.taken l.initial.out) (g.C.Call.request c)) (parts g.C.Divisible.part l.call l.at (drop l.window-index l.windows))))
-    ≡ sum_told (answers (on_rows (g.O.Output.rule l.initial.out)) (g.O.Output.kept l.initial.out) (map (λ c. asked_by (g.O.Output.taken l.initial.out) (g.C.Call.request c)) (parts g.C.Divisible.part l.call 0 l.windows))))
-    × (Over (g.O.Output.base l.initial.out) (g.C.Call.request l.call).drawn
-    → (after_all (g.O.Output.rule l.initial.out) (map row_of (g.O.Output.kept l.out)) (map (λ c. asked_rows (g.C.Call.request c)) (parts g.C.Divisible.part l.call l.at (drop l.window-index l.windows)))
-    ≡ after_all (g.O.Output.rule l.initial.out) (map row_of (g.O.Output.kept l.initial.out)) (map (λ c. asked_rows (g.C.Call.request c)) (parts g.C.Divisible.part l.call 0 l.windows)))
-    × (cond l.all (all_taken (answers (g.O.Output.rule l.initial.out) (map row_of (g.O.Output.kept l.out)) (map (λ c. asked_rows (g.C.Call.request c)) (parts g.C.Divisible.part l.call l.at (drop l.window-index l.windows))))) false
-    ≡ all_taken (answers (g.O.Output.rule l.initial.out) (map row_of (g.O.Output.kept l.initial.out)) (map (λ c. asked_rows (g.C.Call.request c)) (parts g.C.Divisible.part l.call 0 l.windows))))
-    × (l.rows + sum_told (answers (g.O.Output.rule l.initial.out) (map row_of (g.O.Output.kept l.out)) (map (λ c. asked_rows (g.C.Call.request c)) (parts g.C.Divisible.part l.call l.at (drop l.window-index l.windows))))
-    ≡ sum_told (answers (g.O.Output.rule l.initial.out) (map row_of (g.O.Output.kept l.initial.out)) (map (λ c. asked_rows (g.C.Call.request c)) (parts g.C.Divisible.part l.call 0 l.windows)))))
+    × (O.terms l.out ≡ t)
+    × (0 < l.window-index → O.pending l.out ≡ [])
+    × (after_all (on_rows t.rule) (O.kept l.out) (map ask left) ≡ after_all (on_rows t.rule) (O.kept o) (map ask all))
+    × (cond l.all (all_taken (answers (on_rows t.rule) (O.kept l.out) (map ask left))) false ≡ all_taken (answers (on_rows t.rule) (O.kept o) (map ask all)))
+    × (l.rows + sum_told (answers (on_rows t.rule) (O.kept l.out) (map ask left)) ≡ sum_told (answers (on_rows t.rule) (O.kept o) (map ask all)))
+    × (Over t.base (g.C.Call.request l.call).drawn
+    → (after_all t.rule (map row_of (O.kept l.out)) (map ask_rows left) ≡ after_all t.rule (map row_of (O.kept o)) (map ask_rows all))
+    × (cond l.all (all_taken (answers t.rule (map row_of (O.kept l.out)) (map ask_rows left))) false ≡ all_taken (answers t.rule (map row_of (O.kept o)) (map ask_rows all)))
+    × (l.rows + sum_told (answers t.rule (map row_of (O.kept l.out)) (map ask_rows left)) ≡ sum_told (answers t.rule (map row_of (O.kept o)) (map ask_rows all))))
