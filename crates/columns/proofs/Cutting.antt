@@ -22,7 +22,7 @@ module _ (bytes : List ℕ) (a b : Option ℕ) where
       let t : (leb start end && leb end (length bytes)) ≡ false = grind (arith, nat_tests) in
       sym (ap (λ t. cond t (Some (between start end bytes)) None) t) ∙ places start end e f
 
-  in_order : (start end : ℕ) → Some start ≡ a → Some end ≡ b → start ≤ end → end ≤ length bytes → Some (between start end bytes) ≡ cut bytes a b
+  pub in_order : (start end : ℕ) → Some start ≡ a → Some end ≡ b → start ≤ end → end ≤ length bytes → Some (between start end bytes) ≡ cut bytes a b
   in_order start end e f h k =
       let t : (leb start end && leb end (length bytes)) ≡ true = grind (arith, nat_tests) in
       sym (ap (λ t. cond t (Some (between start end bytes)) None) t) ∙ places start end e f
