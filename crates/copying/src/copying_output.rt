@@ -1,5 +1,5 @@
 //! The output over a storage.
-ghost use Rattle.std.specs.Prelude.{◌≡◌, ◌≤◌, [], ◌++◌, map, length, take, replicate, None, refl};
+ghost use Rattle.std.specs.Prelude.{◌≡◌, [], ◌++◌, map, length, replicate, None, refl};
 ghost use Rattle.std.proofs.Common.{ap, sym, ◌∙◌};
 ghost use Rattle.copying.specs.Pieces.{kept_pieces, pending_pieces};
 ghost use Rattle.copying.specs.Held.{held_same};
@@ -9,41 +9,39 @@ use crate::storage::Storage;
 use fault::Fault;
 use output::{Counts, Output, Piece};
 
-/// Copies rows to lent memory: the kept rows come first in it, and the pending ones after them.
-pub struct CopyingOutput<S: Storage> {
+/// Copies rows to lent memory. What its storage holds is the storage's own invariant: with a bound here an output over
+/// memory that is lent could not be passed to what is generic over outputs.
+pub struct CopyingOutput<S> {
     store: S,
-    kept: Counts,
-    ghost first: { kept.rows ≤ length (S.rows store) },
-    ghost counted: { kept ≡ S.counts (take kept.rows (S.rows store)) },
 }
 
 impl<S: Storage> CopyingOutput<S> {
     /// An output without rows; all of the memory is cleared.
     pub fn new(memory: S::Memory) -> CopyingOutput<S>
-        ensures kept { kept_pieces result.kept.rows (S.rows result.store) ≡ [] }
-        ensures pending { pending_pieces result.kept.rows (S.rows result.store) ≡ [] }
+        ensures kept { kept_pieces (S.kept result.store) (S.rows result.store) ≡ [] }
+        ensures pending { pending_pieces (S.kept result.store) (S.rows result.store) ≡ [] }
         ensures rule { S.rule (S.memory result.store) ≡ S.rule memory }
         ensures sizes { S.sizes (S.memory result.store) ≡ S.sizes memory }
         ensures memory { S.all (S.memory result.store) ≡ S.image (S.sizes memory) [] }
         ensures zeros { S.all (S.memory result.store) ≡ replicate (length (S.all memory)) 0 }
     {
-        let store = S::cleared(memory);
-        let kept = store.held();
-        CopyingOutput { store, kept }
+        CopyingOutput {
+            store: S::cleared(memory),
+        }
     }
 
     /// A fact for proofs, what all memory holds after every call: the rows held, and else zeros; it does nothing.
     pub fn image(&self)
-        ensures { S.all (S.memory self.now.store) ≡ S.image (S.sizes (S.memory self.now.store)) (map row_of (kept_pieces self.now.kept.rows (S.rows self.now.store) ++ pending_pieces self.now.kept.rows (S.rows self.now.store))) }
+        ensures { S.all (S.memory self.now.store) ≡ S.image (S.sizes (S.memory self.now.store)) (map row_of (kept_pieces (S.kept self.now.store) (S.rows self.now.store) ++ pending_pieces (S.kept self.now.store) (S.rows self.now.store))) }
     {}
 }
 
 impl<S: Storage> Output for CopyingOutput<S> {
     type Memory = S::Memory;
 
-    ghost kept = { λ s. kept_pieces s.kept.rows (S.rows s.store) };
+    ghost kept = { λ s. kept_pieces (S.kept s.store) (S.rows s.store) };
 
-    ghost pending = { λ s. pending_pieces s.kept.rows (S.rows s.store) };
+    ghost pending = { λ s. pending_pieces (S.kept s.store) (S.rows s.store) };
 
     ghost terms = { λ s. record { rule = S.rule (S.memory s.store); base = None; taken = copied; sizes = S.sizes (S.memory s.store) } };
 
@@ -54,7 +52,7 @@ impl<S: Storage> Output for CopyingOutput<S> {
     ghost opened = { S.opened };
 
     fn rows(&self) -> usize {
-        self.kept.rows
+        self.store.rows()
     }
 
     fn add(&mut self, piece: Piece<'_>) -> Result<(), Fault> {
@@ -62,29 +60,29 @@ impl<S: Storage> Output for CopyingOutput<S> {
     }
 
     fn keep_pending(&mut self) {
-        self.kept = self.store.held();
+        self.store.keep();
     }
 
     fn drop_pending(&mut self) {
-        self.store.cut(self.kept);
+        self.store.cut();
     }
 
     fn finish(self) -> (Counts, S::Memory)
-        ensures reading { S.reading result.1 result.0 ≡ map row_of (kept_pieces self.kept.rows (S.rows self.store)) }
-        ensures rows { result.0.rows ≡ length (kept_pieces self.kept.rows (S.rows self.store)) }
-        ensures nulls { result.0.nulls ≡ nulls_in (map row_of (kept_pieces self.kept.rows (S.rows self.store))) }
-        ensures counts { result.0 ≡ S.counts (map row_of (kept_pieces self.kept.rows (S.rows self.store))) }
+        ensures reading { S.reading result.1 result.0 ≡ map row_of (kept_pieces (S.kept self.store) (S.rows self.store)) }
+        ensures rows { result.0.rows ≡ length (kept_pieces (S.kept self.store) (S.rows self.store)) }
+        ensures nulls { result.0.nulls ≡ nulls_in (map row_of (kept_pieces (S.kept self.store) (S.rows self.store))) }
+        ensures counts { result.0 ≡ S.counts (map row_of (kept_pieces (S.kept self.store) (S.rows self.store))) }
         ensures accepted { S.opened result.1 result.0 ≡ None }
-        ensures memory { S.all result.1 ≡ S.image (S.sizes (S.memory self.store)) (map row_of (kept_pieces self.kept.rows (S.rows self.store))) }
+        ensures memory { S.all result.1 ≡ S.image (S.sizes (S.memory self.store)) (map row_of (kept_pieces (S.kept self.store) (S.rows self.store))) }
     {
-        let CopyingOutput { mut store, kept } = self;
-        store.cut(kept);
-        (kept, store.give_back())
+        let CopyingOutput { mut store } = self;
+        store.cut();
+        store.give_back()
     }
 
     ghost faithful = { λ s p h. refl };
 
-    ghost fixed = { λ a b sizes kept pending. S.imaged a.store ∙ (ap (λ x. S.image x (S.rows a.store)) sizes ∙ (ap (S.image (S.sizes (S.memory b.store))) (held_same a.kept.rows b.kept.rows (S.rows a.store) (S.rows b.store) kept pending) ∙ sym (S.imaged b.store))) };
+    ghost fixed = { λ a b sizes kept pending. S.imaged a.store ∙ (ap (λ x. S.image x (S.rows a.store)) sizes ∙ (ap (S.image (S.sizes (S.memory b.store))) (held_same (S.kept a.store) (S.kept b.store) (S.rows a.store) (S.rows b.store) kept pending) ∙ sym (S.imaged b.store))) };
 
     ghost refusals = { λ s rows row. S.refusals (S.memory s.store) rows row };
 }

@@ -9,12 +9,15 @@ ghost use Rattle.std.specs.Option.{option_map};
 use fault::Fault;
 use output::Counts;
 
-/// Lent memory with rows in it. It means the rows that it holds, and the memory; what is beyond the rows is zero.
+/// Lent memory with rows in it: the kept rows come first, and the pending ones after them.
+/// It means the rows that it holds, how many of them are kept, and the memory; what is beyond the rows is zero.
 pub trait Storage {
     /// The lent memory.
     type Memory;
 
     ghost rows: { Self → List Row };
+
+    ghost kept: { Self → ℕ };
 
     ghost memory: { Self → Self.Memory };
 
@@ -41,31 +44,42 @@ pub trait Storage {
         ensures sizes { sizes (memory result) ≡ sizes lent }
         ensures zeros { all (memory result) ≡ replicate (length (all lent)) 0 };
 
-    /// What the rows held take.
-    fn held(&self) -> Counts
-        ensures { result ≡ counts (rows self.now) };
+    /// The number of rows kept.
+    fn rows(&self) -> usize
+        ensures { result ≡ kept self.now };
 
     /// Puts a row behind those held, or says why not.
     fn add(&mut self, text: Option<&str>) -> Result<(), Fault>
         ensures verdict { fault_of result ≡ rule (memory self.old) (rows self.old) (option_map (λ x. x.now) text.entry) }
         ensures rows { rows self.new ≡ grown result (rows self.old) (option_map (λ x. x.now) text.entry) }
+        ensures kept { kept self.new ≡ kept self.old }
         ensures rule { rule (memory self.new) ≡ rule (memory self.old) }
         ensures sizes { sizes (memory self.new) ≡ sizes (memory self.old) };
 
-    /// Takes the rows behind the first ones out again, which take so much.
-    fn cut(&mut self, kept: Counts)
-        requires { kept ≡ counts (take kept.rows (rows self.old)) }
-        ensures rows { rows self.new ≡ take kept.rows (rows self.old) }
+    /// Keeps all rows.
+    fn keep(&mut self)
+        ensures rows { rows self.new ≡ rows self.old }
+        ensures kept { kept self.new ≡ length (rows self.old) }
+        ensures memory { memory self.new ≡ memory self.old };
+
+    /// Takes the rows behind the kept ones out again.
+    fn cut(&mut self)
+        ensures rows { rows self.new ≡ take (kept self.old) (rows self.old) }
+        ensures kept { kept self.new ≡ kept self.old }
         ensures rule { rule (memory self.new) ≡ rule (memory self.old) }
         ensures sizes { sizes (memory self.new) ≡ sizes (memory self.old) };
 
-    /// Gives the memory back; what it reads is what was held, and it opens again.
-    fn give_back(self) -> Self::Memory
+    /// Gives the memory back with what its rows take; it reads as them, and it opens again.
+    fn give_back(self) -> (Counts, Self::Memory)
     where
         Self: Sized,
-        ensures memory { result ≡ memory self }
-        ensures reading { reading result (counts (rows self)) ≡ rows self }
-        ensures accepted { opened result (counts (rows self)) ≡ None };
+        ensures counts { result.0 ≡ counts (rows self) }
+        ensures memory { result.1 ≡ memory self }
+        ensures reading { reading result.1 result.0 ≡ rows self }
+        ensures accepted { opened result.1 result.0 ≡ None };
+
+    // The kept rows are among those held.
+    ghost within: { (s : Self) → kept s ≤ length (rows s) };
 
     // All memory is fixed by its sizes and the rows held.
     ghost imaged: { (s : Self) → all (memory s) ≡ image (sizes (memory s)) (rows s) };

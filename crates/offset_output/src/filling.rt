@@ -1,7 +1,7 @@
 //! Rows put into memory, and taken out of it again.
 ghost use Rattle.std.specs.Prelude.{◌≡◌, ◌+◌, ◌<◌, ◌≤◌, [], ◌∷◌, ◌++◌, length, pos, Some, None, nat_lt, refl};
 ghost use Rattle.columns.specs.Offsets.{rows_in, verdict};
-ghost use Rattle.offset_output.specs.Fillings.{faults, held_rows, shown};
+ghost use Rattle.offset_output.specs.Fillings.{faults, held_rows, kept_within, shown};
 ghost use Rattle.offset_output.specs.Memories.{SameSizes, capacity_of, counted, image, lists_of, memory_of, rule_of, sizes_of};
 
 use crate::filled::Filled;
@@ -24,6 +24,7 @@ impl<W: OffsetWidth> Filled<'_, W> {
     fn put_null(&mut self)
         requires { self.old.held.rows < capacity_of self.old.memory }
         ensures sizes { SameSizes self.old.memory self.new.memory }
+        ensures kept { self.new.kept ≡ self.old.kept }
         ensures rows { held_rows self.new ≡ held_rows self.old ++ None ∷ [] }
     {
         let held = self.held;
@@ -41,6 +42,7 @@ impl<W: OffsetWidth> Filled<'_, W> {
         requires fits { self.old.held.value_bytes + length text.now ≤ length self.old.memory.values.now }
         requires end { W.Width.number end ≡ pos (self.old.held.value_bytes + length text.now) }
         ensures sizes { SameSizes self.old.memory self.new.memory }
+        ensures kept { self.new.kept ≡ self.old.kept }
         ensures rows { held_rows self.new ≡ held_rows self.old ++ Some text.now ∷ [] }
     {
         self.held = self.memory.write(self.held, text.as_bytes(), end);
@@ -51,6 +53,8 @@ impl<'a, W: OffsetWidth> Storage for Filled<'a, W> {
     type Memory = Memory<'a, W>;
 
     ghost rows = { held_rows };
+
+    ghost kept = { λ s. s.kept.rows };
 
     ghost memory = { λ s. s.memory };
 
@@ -73,12 +77,13 @@ impl<'a, W: OffsetWidth> Storage for Filled<'a, W> {
         memory.clear();
         Filled {
             memory,
+            kept: Counts::default(),
             held: Counts::default(),
         }
     }
 
-    fn held(&self) -> Counts {
-        self.held
+    fn rows(&self) -> usize {
+        self.kept.rows
     }
 
     fn add(&mut self, text: Option<&str>) -> Result<(), Fault> {
@@ -98,19 +103,28 @@ impl<'a, W: OffsetWidth> Storage for Filled<'a, W> {
         Ok(())
     }
 
+    fn keep(&mut self) {
+        self.kept = self.held;
+    }
+
     /// Touches only what the rows behind were written to.
-    fn cut(&mut self, kept: Counts) {
-        let held = self.held;
-        if kept.rows < held.rows {
-            self.memory.wipe_after(kept, held);
-            self.held = kept;
+    fn cut(&mut self) {
+        if self.kept.rows < self.held.rows {
+            self.memory.wipe_after(self.kept, self.held);
+            self.held = self.kept;
         }
     }
 
-    fn give_back(self) -> Memory<'a, W> {
-        let Filled { memory, held: _ } = self;
-        memory
+    fn give_back(self) -> (Counts, Memory<'a, W>) {
+        let Filled {
+            memory,
+            kept: _,
+            held,
+        } = self;
+        (held, memory)
     }
+
+    ghost within = { λ s. kept_within W.Width.number s.memory s.kept s.held s.has s.keeps };
 
     ghost imaged = { λ s. shown W.Width.number s.memory s.held s.has };
 

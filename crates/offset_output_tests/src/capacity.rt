@@ -4,9 +4,6 @@ use offset_output::memory::Memory;
 use offset_output::offset_output::OffsetOutput;
 use offset_output::width::OffsetWidth;
 use output::Output;
-use copying::storage::Storage;
-use copying::copying_output::CopyingOutput;
-use offset_output::filled::Filled;
 
 /// Adds the texts, up to one that is refused: the number of its fault.
 fn add_all<O: Output>(out: &mut O, texts: &[&str]) -> Option<u8> {
@@ -38,31 +35,15 @@ fn written<'a, W: OffsetWidth>(
     (number, counts.rows, counts.value_bytes)
 }
 
-fn sum<S: Storage>(s: &S) -> usize {
-    s.held().rows
-}
-
-fn try_a<'a>(s: &Filled<'a, i32>) -> usize {
-    sum(s)
-}
-
-fn sum2<O: Output>(s: &O) -> usize {
-    s.rows()
-}
-
-fn try_b<'a>(s: &OffsetOutput<'a, i32>) -> usize {
-    sum2(s)
-}
-
-fn try_c<'a>(s: &CopyingOutput<Filled<'a, i32>>) -> usize {
-    sum2(s)
-}
-
 #[test]
 fn full_by_rows(rt: HostRuntime) {
     assert!(rt; written::<i32>(&mut [7; 3], &mut [7; 9], &mut [7], &["a", "b"]) == (None, 2, 2));
-    assert!(rt; written::<i32>(&mut [7; 3], &mut [7; 9], &mut [7], &["a", "b", "c"]) == (Some(9), 2, 2));
-    assert!(rt; written::<i64>(&mut [7; 3], &mut [7; 9], &mut [7], &["a", "b", "c"]) == (Some(9), 2, 2));
+    assert!(rt;
+        written::<i32>(&mut [7; 3], &mut [7; 9], &mut [7], &["a", "b", "c"]) == (Some(9), 2, 2)
+    );
+    assert!(rt;
+        written::<i64>(&mut [7; 3], &mut [7; 9], &mut [7], &["a", "b", "c"]) == (Some(9), 2, 2)
+    );
     assert!(rt;
         written::<i32>(&mut [], &mut [7; 9], &mut [7], &[""]) == (Some(9), 0, 0),
         "no offsets"
@@ -82,9 +63,15 @@ fn full_by_the_bitmap(rt: HostRuntime) {
 
 #[test]
 fn full_by_bytes(rt: HostRuntime) {
-    assert!(rt; written::<i32>(&mut [7; 9], &mut [7; 4], &mut [7], &["ab", "cd", ""]) == (None, 3, 4));
-    assert!(rt; written::<i32>(&mut [7; 9], &mut [7; 4], &mut [7], &["ab", "cde"]) == (Some(12), 1, 2));
-    assert!(rt; written::<i64>(&mut [7; 9], &mut [7; 4], &mut [7], &["ab", "cd", "e"]) == (Some(12), 2, 4));
+    assert!(rt;
+        written::<i32>(&mut [7; 9], &mut [7; 4], &mut [7], &["ab", "cd", ""]) == (None, 3, 4)
+    );
+    assert!(rt;
+        written::<i32>(&mut [7; 9], &mut [7; 4], &mut [7], &["ab", "cde"]) == (Some(12), 1, 2)
+    );
+    assert!(rt;
+        written::<i64>(&mut [7; 9], &mut [7; 4], &mut [7], &["ab", "cd", "e"]) == (Some(12), 2, 4)
+    );
     assert!(rt; written::<i64>(&mut [7; 2], &mut [], &mut [7], &["ab", "cde"]) == (Some(12), 0, 0));
     assert!(rt;
         written::<i64>(&mut [7; 2], &mut [7; 2], &mut [7], &["ab", "cde"]) == (Some(9), 1, 2),

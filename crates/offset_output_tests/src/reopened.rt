@@ -15,7 +15,7 @@ use output::Output;
 
 /// Finishes an output and opens it again.
 pub fn reopened<'a, W: OffsetWidth>(out: OffsetOutput<'a, W>) -> OffsetColumn<'a, W>
-    ensures { rows_in result.rows (lists W.Width.number result.lent) ≡ map row_of (kept_pieces out.entry.kept.rows (held_rows out.entry.store)) }
+    ensures { rows_in result.rows (lists W.Width.number result.lent) ≡ map row_of (kept_pieces out.entry.store.kept.rows (held_rows out.entry.store)) }
 {
     let (counts, memory) = out.finish();
     let Memory {

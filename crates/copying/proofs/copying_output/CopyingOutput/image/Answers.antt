@@ -5,4 +5,4 @@ use Rattle.copying.proofs.copying_output.CopyingOutput.image.Goals as goal
 pub returns : goal.returns
 returns g c =
     let s = c.args.self.now in
-    g.met.S.Storage.imaged s.store ∙ ap (g.S.Storage.image (g.S.Storage.sizes (g.S.Storage.memory s.store))) (sym (rows_parts s.kept.rows (g.S.Storage.rows s.store)))
+    g.met.S.Storage.imaged s.store ∙ ap (g.S.Storage.image (g.S.Storage.sizes (g.S.Storage.memory s.store))) (sym (rows_parts (g.S.Storage.kept s.store) (g.S.Storage.rows s.store)))

@@ -1,6 +1,6 @@
-use Rattle.std.proofs.Common.{◌≤◌, ap, arith, rules}
+use Rattle.std.proofs.Common.{◌≤◌, None, refl, ap, arith, rules}
 use Rattle.offset_layout.proofs.Reading.{rows_are}
-use Rattle.offset_output.proofs.Growing.{has, null_counted, null_put}
+use Rattle.offset_output.proofs.Growing.{has, more_keeps, null_counted, null_put}
 use Rattle.offset_output.proofs.Nulls.{nulls_below}
 use Rattle.offset_output.specs.Fillings.{held_rows}
 use Rattle.offset_output.proofs.filled.Filled.put_null.Goals as goal
@@ -16,8 +16,10 @@ overflow_add-self-2 g c =
 
 pub invariant_of-self : goal.invariant_of-self
 invariant_of-self g c =
+    let num = g.W.Width.number in
     let s = c.args.self.now in
-    record { has = has g.W.Width.number _ _ _ (null_put g.W.Width.number s.memory s.held s.has c.requires _) (null_counted s.held (held_rows s) s.has.counts) }
+    let h = null_put num s.memory s.held s.has c.requires c.index-self-held.result in
+    record { has = has num _ _ _ h (null_counted s.held (held_rows s) s.has.counts); keeps = more_keeps num s.memory _ s.kept s.held s.has s.keeps _ None refl (rows_are h) }
 
 pub returns-clause-rows : goal.returns-clause-rows
 returns-clause-rows g c =

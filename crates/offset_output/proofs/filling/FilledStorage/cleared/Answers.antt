@@ -1,4 +1,4 @@
-use Rattle.std.proofs.Common.{◌≡◌, [], refl}
+use Rattle.std.proofs.Common.{◌≡◌, [], refl, arith}
 use Rattle.offset_layout.proofs.Holding.{no_rows}
 use Rattle.offset_layout.specs.Layout.{used}
 use Rattle.offset_output.proofs.Cleared.{cleared}
@@ -11,7 +11,11 @@ unfolding used
 invariant_of-result g c =
     let e = c.clear.ensures in
     let k : c.default.result ≡ counted [] = none_counted c.default.result c.default.ensures in
-    record { has = rw k (has g.W.Width.number c.clear.new.self [] (counted []) (no_rows _ _ _ _ _ _ e.offsets e.values e.validity) refl) }
+    let h : c.default-2.result ≡ counted [] = none_counted c.default-2.result c.default-2.ensures in
+    record {
+      has = rw h (has g.W.Width.number c.clear.new.self [] (counted []) (no_rows _ _ _ _ _ _ e.offsets e.values e.validity) refl);
+      keeps = rw (k, h) (record { first = omega arith; counts = refl });
+    }
 
 pub returns-clause-zeros : goal.returns-clause-zeros
 returns-clause-zeros g c =
