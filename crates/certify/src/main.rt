@@ -4,17 +4,20 @@
 use certificates::kinds::Kind;
 use certificates::reading::{condition, line_kind};
 use certificates::tally::{Outcome, Tally};
-use columns::offset_column_64::OffsetColumn64;
 use fault::Fault;
+use layout::Layout;
+use lists::{Lists, Unheld};
 use offsets::OffsetLists;
 use source::Source;
+use std::fmt::Display;
 use std::io::Read;
 use std::process::ExitCode;
 use std::{env, fs, io};
 use values::Values;
 use view_lists::ViewLists;
-use views::view_column::ViewColumn;
 
+mod layout;
+mod lists;
 mod offsets;
 #[cfg(test)]
 mod tests;
@@ -45,19 +48,12 @@ counts, which add up to the lines read.
   --layout view     holds them in a column of string views; it answers the same
   --help            prints this text";
 
-/// How the lines are held.
-#[derive(Clone, Copy, PartialEq, Eq)]
-enum Layout {
-    Offset,
-    View,
-}
-
 fn main(rt: HostRuntime) -> anyhow::Result<ExitCode> {
     run(&rt)
 }
 
 /// Says what is wrong with the command line, and ends with status 1.
-fn usage(rt: &HostRuntime, what: &str) -> anyhow::Result<ExitCode> {
+fn usage<D: Display + Drop>(rt: &HostRuntime, what: D) -> anyhow::Result<ExitCode> {
     eprintln!(rt; "certify: {what}; see certify --help")?;
     Ok(ExitCode::FAILURE)
 }
@@ -73,11 +69,11 @@ fn run(rt: &HostRuntime) -> anyhow::Result<ExitCode> {
             return Ok(ExitCode::SUCCESS);
         }
         if option.as_str() == "--layout" {
-            layout = match words.next() {
-                Some(name) if name.as_str() == "offset" => Layout::Offset,
-                Some(name) if name.as_str() == "view" => Layout::View,
-                _ => return usage(rt, "--layout takes offset or view"),
+            let named = words.next().map(|name| name.as_str().parse::<Layout>());
+            let Some(Ok(named)) = named else {
+                return usage(rt, "--layout takes offset or view");
             };
+            layout = named;
             word = words.next();
         }
     }
@@ -104,53 +100,41 @@ fn read_file(rt: &HostRuntime, layout: Layout, path: &str) -> anyhow::Result<Exi
     }
 }
 
-/// Says that an upload could not be held, and ends with status 1.
-fn refused(rt: &HostRuntime, fault: Fault) -> anyhow::Result<ExitCode> {
-    eprintln!(rt; "certify: {fault}")?;
-    Ok(ExitCode::FAILURE)
+/// Says that an upload is not held, and ends with status 1.
+fn refused(rt: &HostRuntime, unheld: Unheld) -> anyhow::Result<ExitCode> {
+    match unheld {
+        Unheld::TooLarge(layout) => {
+            usage(rt, format_args!("the upload is too large for {layout}s"))
+        }
+        Unheld::Fault(fault) => {
+            eprintln!(rt; "certify: {fault}")?;
+            Ok(ExitCode::FAILURE)
+        }
+        Unheld::Memory(error) => Err(error.into()),
+    }
 }
 
 fn lay_out(rt: &HostRuntime, layout: Layout, upload: &[u8]) -> anyhow::Result<ExitCode> {
     let lines = Values::new(rt.alloc(), upload)?;
     match layout {
-        Layout::Offset => by_offsets(rt, lines),
-        Layout::View => by_views(rt, lines),
+        Layout::Offset => match OffsetLists::hold(rt.alloc(), lines) {
+            Ok(lists) => certify_opened(rt, lists.open()),
+            Err(unheld) => refused(rt, unheld),
+        },
+        Layout::View => match ViewLists::hold(rt.alloc(), lines) {
+            Ok(lists) => certify_opened(rt, lists.open()),
+            Err(unheld) => refused(rt, unheld),
+        },
     }
 }
 
-fn by_offsets(rt: &HostRuntime, lines: Values) -> anyhow::Result<ExitCode> {
-    let Some(mut lists) = OffsetLists::new(rt.alloc(), lines)? else {
-        return usage(rt, "the upload is too large for offsets");
-    };
-    if let Err(fault) = lists.null_damaged() {
-        return refused(rt, fault);
-    }
-    certify_offsets(rt, &lists)
-}
-
-fn certify_offsets(rt: &HostRuntime, lists: &OffsetLists) -> anyhow::Result<ExitCode> {
-    let mut column = OffsetColumn64::empty();
-    match column.open(lists.rows(), lists.all()) {
-        Ok(()) => certify(rt, &column),
-        Err(fault) => refused(rt, fault),
-    }
-}
-
-fn by_views(rt: &HostRuntime, lines: Values) -> anyhow::Result<ExitCode> {
-    let Some(mut lists) = ViewLists::new(rt.alloc(), lines)? else {
-        return usage(rt, "the upload is too large for views");
-    };
-    if let Err(fault) = lists.null_damaged() {
-        return refused(rt, fault);
-    }
-    certify_views(rt, &lists)
-}
-
-fn certify_views(rt: &HostRuntime, lists: &ViewLists) -> anyhow::Result<ExitCode> {
-    let mut column = ViewColumn::empty();
-    match column.open(lists.rows(), lists.all()) {
-        Ok(()) => certify(rt, &column),
-        Err(fault) => refused(rt, fault),
+fn certify_opened<'a, S: Source<'a> + Drop>(
+    rt: &HostRuntime,
+    opened: Result<S, Fault>,
+) -> anyhow::Result<ExitCode> {
+    match opened {
+        Ok(column) => certify(rt, &column),
+        Err(fault) => refused(rt, fault.into()),
     }
 }
 

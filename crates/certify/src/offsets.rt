@@ -1,12 +1,14 @@
 //! An upload as a column with 64-bit offsets.
+use crate::layout::Layout;
+use crate::lists::{Lists, Unheld};
 use crate::validity::{all_valid, make_null};
 use crate::values::Values;
 use columns::lent::Lent;
-use columns::offset_column_64::OffsetColumn64;
+use columns::offset_column::OffsetColumn;
 use fault::Fault;
-use std::alloc::{AllocError, Global};
+use std::alloc::Global;
 
-/// The lists of an offset column, one row a line.
+/// The lists of an offset column.
 #[derive(Drop)]
 pub struct OffsetLists {
     offsets: Vec<i64>,
@@ -16,27 +18,6 @@ pub struct OffsetLists {
 }
 
 impl OffsetLists {
-    /// All lines, each valid yet; nothing where an offset would not fit.
-    pub fn new(heap: Global, lines: Values) -> Result<Option<OffsetLists>, AllocError> {
-        let Values { bytes, ends } = lines;
-        let mut offsets = Vec::new(heap);
-        offsets.push(0)?;
-        for end in ends.iter() {
-            match i64::try_from(*end) {
-                Ok(offset) => offsets.push(offset)?,
-                Err(_) => return Ok(None),
-            }
-        }
-        let rows = ends.len();
-        let validity = all_valid(heap, rows)?;
-        Ok(Some(OffsetLists {
-            offsets,
-            values: bytes,
-            validity,
-            rows,
-        }))
-    }
-
     /// What the rows from one on are opened over.
     fn lent<'a>(&'a self, first: usize, validity: Option<&'a [u8]>) -> Lent<'a, i64> {
         Lent {
@@ -46,39 +27,43 @@ impl OffsetLists {
         }
     }
 
-    /// The first fault among the rows from one on, none of them taken for null.
-    fn fault_from(&self, first: usize) -> Option<Fault> {
-        let mut column = OffsetColumn64::empty();
-        match column.open(self.rows.saturating_sub(first), self.lent(first, None)) {
-            Ok(()) => None,
-            Err(fault) => Some(fault),
+    /// The column of all rows.
+    pub fn open(&self) -> Result<OffsetColumn<'_, i64>, Fault> {
+        OffsetColumn::open(self.rows, self.lent(0, Some(self.validity.as_slice())))
+    }
+}
+
+impl Lists for OffsetLists {
+    fn new(heap: Global, lines: Values) -> Result<OffsetLists, Unheld> {
+        let Values { bytes, ends } = lines;
+        let mut offsets = Vec::new(heap);
+        offsets.push(0)?;
+        for end in ends.iter() {
+            let Ok(offset) = i64::try_from(*end) else {
+                return Err(Unheld::TooLarge(Layout::Offset));
+            };
+            offsets.push(offset)?;
         }
+        let rows = ends.len();
+        let validity = all_valid(heap, rows)?;
+        Ok(OffsetLists {
+            offsets,
+            values: bytes,
+            validity,
+            rows,
+        })
     }
 
-    /// Makes every damaged line a null row: opening goes on behind each, so that every line is checked once.
-    pub fn null_damaged(&mut self) -> Result<(), Fault> {
-        let mut first = 0;
-        for _ in 0..self.rows {
-            match self.fault_from(first) {
-                None => return Ok(()),
-                Some(Fault::Malformed { row }) => {
-                    let damaged = first.saturating_add(row);
-                    make_null(&mut self.validity, damaged);
-                    first = damaged.saturating_add(1);
-                }
-                Some(fault) => return Err(fault),
-            }
-        }
-        Ok(())
-    }
-
-    /// The number of lines.
-    pub fn rows(&self) -> usize {
+    fn rows(&self) -> usize {
         self.rows
     }
 
-    /// What all rows are opened over.
-    pub fn all(&self) -> Lent<'_, i64> {
-        self.lent(0, Some(self.validity.as_slice()))
+    fn check_from(&self, first: usize) -> Result<(), Fault> {
+        OffsetColumn::open(self.rows.saturating_sub(first), self.lent(first, None))?;
+        Ok(())
+    }
+
+    fn make_null(&mut self, row: usize) {
+        make_null(&mut self.validity, row);
     }
 }

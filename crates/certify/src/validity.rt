@@ -8,8 +8,7 @@ pub fn all_valid(heap: Global, rows: usize) -> Result<Vec<u8>, AllocError> {
 
 /// Makes a row null; a row past the bitmap stays as it is.
 pub fn make_null(validity: &mut [u8], row: usize) {
-    let byte = row / 8;
-    if byte < validity.len() {
-        validity[byte] &= !(1u8 << (row % 8));
+    if let Some(byte) = validity.get_mut(row / 8) {
+        *byte &= !(1u8 << (row % 8));
     }
 }

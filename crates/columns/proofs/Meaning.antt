@@ -26,6 +26,9 @@ enough_decides n m =
     let from : (0 < n → n + 1 ≤ l) → (n ≡ 0) ⊎ (n < l) = λ h. elim (cases_lt 0 n) [ inl p ↦ let q = h p in inr (omega arith) | inr p ↦ inl (omega arith) ] in
     Decides-and _ _ (Decides-like _ to from (Decides-or _ _ (Decides-eqb n 0) (Decides-ltb n l))) (covers_decides m.validity n)
 
+pub too_short : (n : ℕ) (m : Lists) → false ≡ enough n m → Enough n m → ⊥
+too_short n m e a = false≢true (e ∙ (enough_decides n m).1 a)
+
 -- a cut, by its offsets
 module _ (bytes : List ℕ) where
   cut_some : (z w : ℤ) (t : List ℕ) → cut bytes (place_of z) (place_of w) ≡ Some t → (pos 0 ≤ℤ z) × (z ≤ℤ w) × (w ≤ℤ pos (length bytes)) × (t ≡ between (nat_abs z) (nat_abs w) bytes)
@@ -112,7 +115,7 @@ module _ (n : ℕ) (m : Lists) where
       at_rows_by (row_at m) n i None l ∙ ap (λ p. cond (valid m.validity i) p None) (part_holds m i (λ j k. h j (omega arith)) (h i l).0)
 
   says_by : (b : Bool) (v : Verdict) → enough n m ≡ b → first_fault (row_fault m) n ≡ v → Says n m (then (unless b ShortList) v)
-  says_by false v e f = λ a. false≢true (sym e ∙ (enough_decides n m).1 a)
+  says_by false v e f = too_short n m (sym e)
   says_by true None e f = (((enough_decides n m).0 e, rows_hold n f), reads (rows_hold n f))
   says_by true (Some d) e f =
       let k = first_fault_some (row_fault m) n d f in

@@ -33,6 +33,7 @@ impl<'a, W: Width> Clone for OffsetColumn<'a, W> {
 
 impl<'a, W: Width> OffsetColumn<'a, W> {
     /// A column of no rows.
+    #[tactic(auto, unfolding(crate::specs::Offsets::enough, source::specs::Rows::rows_by))]
     pub fn empty() -> OffsetColumn<'a, W>
         ensures { rows_in result.rows (lists W.number result.lent) ≡ [] }
     {
@@ -60,10 +61,12 @@ impl<'a, W: Width> OffsetColumn<'a, W> {
 impl<'a, W: Width> Source<'a> for OffsetColumn<'a, W> {
     ghost listed = { λ s. rows_in s.rows (lists W.number s.lent) };
 
+    #[tactic(auto, using(source::proofs::Numbered::length_rows_by))]
     fn rows(&self) -> usize {
         self.rows
     }
 
+    #[tactic(auto, using(source::proofs::Numbered::at_rows_by, source::proofs::Numbered::past_rows_by, crate::proofs::Opened::has_enough, crate::proofs::Opened::room_from_enough, crate::proofs::Opened::row_formed, text::proofs::Forms::utf8_from_formed))]
     fn text(&self, row: usize) -> Option<&'a str> {
         if row >= self.rows || !is_valid(self.lent.validity, row) {
             return None;

@@ -26,6 +26,7 @@ fn is_enough(rows: usize, values: &[i64], validity: Option<&[u8]>) -> bool
 
 impl<'a> PositionColumn<'a> {
     /// A column of no rows.
+    #[tactic(auto, unfolding(crate::specs::Positions::enough_numbers, source::specs::Rows::rows_by))]
     pub fn empty() -> PositionColumn<'a>
         ensures { positions_in result.rows (numbers result.values result.validity) ≡ [] }
     {
@@ -59,10 +60,12 @@ impl<'a> PositionColumn<'a> {
 impl<'a> Positions for PositionColumn<'a> {
     ghost numbered = { λ s. positions_in s.rows (numbers s.values s.validity) };
 
+    #[tactic(auto, using(source::proofs::Numbered::length_rows_by))]
     fn rows(&self) -> usize {
         self.rows
     }
 
+    #[tactic(auto, using(crate::proofs::Positions::has_values, source::proofs::Numbered::at_rows_by, source::proofs::Numbered::past_rows_by))]
     fn position(&self, row: usize) -> Option<i64> {
         if row >= self.rows || !is_valid(self.validity, row) {
             return None;

@@ -22,6 +22,7 @@ fn place<W: Width>(offsets: &[W], i: usize) -> Option<usize>
 
 impl<'a, W: Width> Lent<'a, W> {
     /// Whether the lists are long enough for the rows.
+    #[tactic(auto, using(std::proofs::lemmas::Bool::Decides::nat_tests), unfolding(crate::specs::Offsets::enough))]
     fn is_enough(&self, rows: usize) -> bool
         ensures { result ≡ enough rows (lists W.number self.now) }
     {
@@ -29,6 +30,7 @@ impl<'a, W: Width> Lent<'a, W> {
     }
 
     /// The value bytes of a row; nothing where its offsets are not places in order within them.
+    #[tactic(auto, using(std::proofs::lemmas::Bool::Decides::nat_tests), unfolding(crate::specs::Offsets::part))]
     pub(crate) fn part(&self, row: usize) -> Option<&'a [u8]>
         requires { row + 1 < length self.now.offsets.now }
         ensures { option_map (λ x. x.now) result ≡ part (lists W.number self.now) row }
@@ -39,6 +41,7 @@ impl<'a, W: Width> Lent<'a, W> {
     }
 
     /// Refuses a row that does not hold.
+    #[tactic(auto, unfolding(crate::specs::Offsets::row_fault))]
     fn check_row(&self, row: usize) -> Result<(), Fault>
         requires { row + 1 < length self.now.offsets.now }
         ensures { fault_of result ≡ row_fault (lists W.number self.now) row }
@@ -51,6 +54,7 @@ impl<'a, W: Width> Lent<'a, W> {
     }
 
     /// Refuses the lowest row that does not hold.
+    #[tactic(auto, using(source::proofs::Faults::first_fault_found, crate::proofs::Opened::room_from_enough))]
     fn check_rows(&self, rows: usize) -> Result<(), Fault>
         requires { enough rows (lists W.number self.now) ≡ true }
         ensures { fault_of result ≡ first_fault (row_fault (lists W.number self.now)) rows }
@@ -62,6 +66,7 @@ impl<'a, W: Width> Lent<'a, W> {
     }
 
     /// Refuses rows that may not be opened.
+    #[tactic(auto, using(crate::proofs::Meaning::says, crate::proofs::Meaning::too_short))]
     pub(crate) fn check(&self, rows: usize) -> Result<(), Fault>
         ensures answer { fault_of result ≡ verdict rows (lists W.number self.now) }
         ensures meaning { Says rows (lists W.number self.now) (fault_of result) }

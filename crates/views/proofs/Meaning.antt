@@ -1,5 +1,5 @@
 -- The verdict says when rows may be opened, and when each fault comes.
-use Rattle.std.proofs.Common.{◌≡◌, ℕ, ◌+◌, ◌-◌, ◌*◌, ◌<◌, ◌≤◌, Bool, true, false, cond, leb, List, length, get_or, drop, Some, None, Decides, sym, refl, ap, ◌∙◌, subst, inl, inr, arith}
+use Rattle.std.proofs.Common.{◌≡◌, ℕ, ◌+◌, ◌-◌, ◌*◌, ◌<◌, ◌≤◌, Bool, true, false, cond, leb, List, length, get_or, drop, Some, None, Ok, Err, Result, MatchResult, Decides, sym, refl, ap, ◌∙◌, subst, inl, inr, arith}
 use Rattle.std.proofs.lemmas.Slice.Eq.{bytes_eq-Decides}
 use Rattle.std.proofs.lemmas.List.{get_or-take, get_or-drop, get_or_past, length-take}
 use Rattle.std.proofs.lemmas.Bool.{and_from, cases_Bool, cases_lt, false≢true, le-leb, leb-true}
@@ -8,13 +8,13 @@ use Rattle.fault.specs.declared.Fault.{Fault}
 use Rattle.fault.specs.declared.Fault.TheVariants.{ShortList, BufferEnd, View, Malformed}
 use Rattle.bitmap.specs.Validity.{valid}
 use Rattle.bitmap.proofs.Covering.{covers_decides}
-use Rattle.source.specs.Verdicts.{Verdict, unless, then, first_fault}
+use Rattle.source.specs.Verdicts.{Verdict, unless, then, first_fault, fault_of}
 use Rattle.source.proofs.Faults.{first_fault_none, first_fault_some, no_some}
 use Rattle.text.specs.Steps.{formed}
 use Rattle.text.proofs.Forms.{formed_decides}
 use Rattle.views.specs.Layout.{Data, Lists, blank, buffer, buffer_end, buffer_start, fits, long_rule, offset, part, place, short_rule, size, text, view}
 use Rattle.views.specs.Verdict.{end_fault, end_holds, ends_fault, enough, row_fault, verdict}
-use Rattle.views.specs.Meaning.{Enough, EndsHold, ShortHolds, LongHolds, ViewHolds, RowHolds, RowsHold, Refused, Says}
+use Rattle.views.specs.Meaning.{Enough, EndsHold, ShortHolds, LongHolds, ViewHolds, RowHolds, RowsHold, Opens, Refused, Says}
 use Rattle.views.proofs.Opened.{row_fault_by}
 use Rattle.views.proofs.Views.{all_blank, zero_from_blank, ends_hold, fits_not, fits_short, fits_long}
 
@@ -120,3 +120,7 @@ module _ (n : ℕ) (m : Lists) where
 
   pub says : (v : Verdict) → v ≡ verdict n m → Says n m v
   says v e = subst (Says n m) (sym e) (says_by (enough n m) (ends_fault m.buffers) (first_fault (row_fault m) n) refl refl refl)
+
+  pub told : {X : Type 0} (r : Result X Fault) → fault_of r ≡ verdict n m → MatchResult r (λ _. Opens n m) (λ e. Refused n m e)
+  told (Ok x) e = says None e
+  told (Err d) e = says (Some d) e

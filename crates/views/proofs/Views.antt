@@ -2,22 +2,19 @@
 use Rattle.std.proofs.Common.{◌≡◌, ℕ, zero, suc, ◌+◌, ◌-◌, ◌*◌, ◌<◌, ◌≤◌, Bool, true, false, ◌&&◌, eqb, ltb, leb, List, [], ◌∷◌, length, get_or, None, Decides, sym, refl, ap, ◌∙◌, arith}
 use Rattle.std.proofs.lemmas.Slice.Eq.{bytes_eq-Decides}
 use Rattle.std.proofs.lemmas.List.{length-take, length-drop}
-use Rattle.std.proofs.lemmas.Bool.{and_parts, and_from, and_left, and_right, eqb-true, eq-eqb, ne_eqb, le-leb, lt-leb, leb-true, ltb-true}
-use Rattle.std.proofs.lemmas.Bool.Decides.{same_from_decides}
+use Rattle.std.proofs.lemmas.Bool.{and_parts, and_from, eqb-true, eq-eqb, leb-true, ltb-true}
+use Rattle.std.proofs.lemmas.Bool.Decides.{nat_tests, same_from_decides}
 use Rattle.std.specs.Str.{bytes_eq}
 use Rattle.source.proofs.Faults.{true_from_unless, first_fault_none}
-use Rattle.views.specs.Layout.{Data, Lists, LiesIn, fits, text, part, blank, short_rule, long_rule, buffer_start, buffer_end, in_buffer, buffer, place, size, offset}
+use Rattle.views.specs.declared.lent.Lent.{Lent}
+use Rattle.views.specs.Reading.{lists}
+use Rattle.views.specs.Layout.{Data, LiesIn, fits, text, part, blank, short_rule, long_rule, buffer_start, buffer_end, in_buffer, buffer, place, size, offset}
 use Rattle.views.specs.Verdict.{enough, end_holds, end_fault, ends_fault}
 
--- all bytes are 0, or one is not
+-- all bytes are 0
 pub all_blank : (xs : List ℕ) → ((k : ℕ) → k < length xs → get_or xs k 0 ≡ 0) → blank xs ≡ true
 all_blank [] h = refl
 all_blank (x ∷ xs) h = and_from (eqb x 0) (blank xs) (eq-eqb x 0 (h zero (omega arith))) (all_blank xs (λ k l. h (suc k) (omega arith)))
-
-pub one_not_blank : (xs : List ℕ) (k : ℕ) → k < length xs → (get_or xs k 0 ≡ 0 → ⊥) → blank xs ≡ false
-one_not_blank [] k l h = absurd (omega arith)
-one_not_blank (x ∷ xs) zero l h = and_left (eqb x 0) (blank xs) (ne_eqb x 0 h)
-one_not_blank (x ∷ xs) (suc k) l h = and_right (eqb x 0) (blank xs) (one_not_blank xs k (omega arith) h)
 
 pub zero_from_blank : (xs : List ℕ) (k : ℕ) → blank xs ≡ true → k < length xs → get_or xs k 0 ≡ 0
 zero_from_blank [] k h l = absurd (omega arith)
@@ -39,38 +36,32 @@ in_room d v t =
     let q : (leb (offset v + size v) room ≡ true) × (leb (offset v + size v) 2147483647 ≡ true) = and_parts _ _ p.1 in
     (ltb-true _ _ p.0, leb-true _ _ q.0, leb-true _ _ q.1)
 
-pub in_place : (d : Data) (v : List ℕ) → ends_fault d ≡ None → in_buffer d v ≡ true → (buffer v < length d.ends) × (place d v + size v ≤ length d.bytes)
+pub in_place : (d : Data) (v : List ℕ) → ends_fault d ≡ None → in_buffer d v ≡ true → place d v + size v ≤ length d.bytes
 in_place d v h t =
     let r = in_room d v t in
     let e = ends_hold d (buffer v) h r.0 in
-    (r.0, omega arith)
+    omega arith
 
 module _ (d : Data) (v : List ℕ) where
   pub fits_not : 2147483647 < size v → fits d v ≡ false
   unfolding fits
-  fits_not h = and_left _ _ (lt-leb (size v) 2147483647 h)
+  fits_not h = grind (arith, nat_tests)
 
   pub fits_short : size v ≤ 12 → fits d v ≡ short_rule v
   unfolding fits
-  fits_short h =
-      let a : leb (size v) 2147483647 ≡ true = le-leb (size v) 2147483647 (omega arith) in
-      let b : leb (size v) 12 ≡ true = le-leb (size v) 12 h in
-      simp (a, b)
+  fits_short h = grind (arith, nat_tests)
 
   pub fits_long : 12 < size v → size v ≤ 2147483647 → fits d v ≡ long_rule d v
   unfolding fits
-  fits_long h k =
-      let a : leb (size v) 2147483647 ≡ true = le-leb (size v) 2147483647 k in
-      let b : leb (size v) 12 ≡ false = lt-leb (size v) 12 h in
-      simp (a, b)
+  fits_long h k = grind (arith, nat_tests)
 
   pub text_short : size v ≤ 12 → text d v ≡ part 4 (size v) v
   unfolding text
-  text_short h = let b : leb (size v) 12 ≡ true = le-leb (size v) 12 h in simp b
+  text_short h = grind (arith, nat_tests)
 
   pub text_long : 12 < size v → text d v ≡ part (place d v) (size v) d.bytes
   unfolding text
-  text_long h = let b : leb (size v) 12 ≡ false = lt-leb (size v) 12 h in simp b
+  text_long h = grind (arith, nat_tests)
 
   -- a long view that keeps the rules lies in its buffer
   pub within_from_fits : fits d v ≡ true → 12 < size v → in_buffer d v ≡ true
@@ -85,7 +76,7 @@ module _ (d : Data) (v : List ℕ) where
   lies_in e h k =
       let w : in_buffer d v ≡ true = within_from_fits h k in
       let r = in_room d v w in
-      let p : place d v + size v ≤ length d.bytes = (in_place d v e w).1 in
+      let p : place d v + size v ≤ length d.bytes = in_place d v e w in
       let t : text d v ≡ part (place d v) (size v) d.bytes = text_long k in
       let l : length (text d v) ≡ size v = ap length t ∙ simp (length-take, length-drop) (omega arith) in
       record {
@@ -103,6 +94,6 @@ module _ (d : Data) (v : List ℕ) where
       s ∙ sym (f ∙ simp (b, sym p, sym q))
 
 -- each of the rows has its view
-pub room_from_enough : (n : ℕ) (m : Lists) (i : ℕ) → enough n m ≡ true → i < n → 16 * i + 16 ≤ length m.views
+pub room_from_enough : (m : Lent) (n i : ℕ) → enough n (lists m) ≡ true → i < n → 16 * i + 16 ≤ length m.views.now
 unfolding enough
-room_from_enough n m i h l = let e = leb-true (16 * n) (length m.views) (and_parts _ _ h).0 in omega arith
+room_from_enough m n i h l = grind (arith, nat_tests)

@@ -3,7 +3,7 @@
 #![tactic(auto)]
 
 mod buffers;
-mod bytes;
 pub mod lent;
 mod reading;
+mod view;
 pub mod view_column;

@@ -1,5 +1,6 @@
 use fault::Fault;
 use source::Source;
+use std::test::Fail;
 use views::lent::{Buffers, Lent};
 use views::view_column::ViewColumn;
 
@@ -9,16 +10,15 @@ const DATA: &[u8] = b"xyztemp,abcdefghijklm,z";
 const ENDS: &[u64] = &[3, 3, 23];
 
 /// The fault's number and row; 0 and 0 where there is none.
-fn told(opened: Result<(), Fault>) -> (u8, usize) {
+fn told<T: Drop>(opened: Result<T, Fault>) -> (u8, usize) {
     match opened {
-        Ok(()) => (0, 0),
+        Ok(_) => (0, 0),
         Err(fault) => (fault.number(), fault.row()),
     }
 }
 
 fn open(rows: usize, lent: Lent) -> (u8, usize) {
-    let mut column = ViewColumn::empty();
-    told(column.open(rows, lent))
+    told(ViewColumn::open(rows, lent))
 }
 
 /// Rows that are all valid.
@@ -135,8 +135,7 @@ fn long_views(rt: HostRuntime) {
 }
 
 #[test]
-fn rows_are_read(rt: HostRuntime) {
-    let mut column = ViewColumn::empty();
+fn rows_are_read(rt: HostRuntime) -> Result<(), Fail> {
     let views =
         b"\x14\0\0\0temp\x02\0\0\0\0\0\0\0\x02\0\0\0hi\0\0\0\0\0\0\0\0\0\0\x0d\0\0\0abcd\x02\0\0\0\x05\0\0\0";
     let lent = Lent {
@@ -147,7 +146,7 @@ fn rows_are_read(rt: HostRuntime) {
         },
         validity: Some(b"\x07"),
     };
-    assert!(rt; told(column.open(3, lent)) == (0, 0));
+    let column = ViewColumn::open(3, lent)?;
     assert!(rt; column.rows() == 3);
     assert!(rt; column.text(0) == Some("temp,abcdefghijklm,z"));
     assert!(rt; column.text(1) == Some("hi"));
@@ -156,4 +155,5 @@ fn rows_are_read(rt: HostRuntime) {
     assert!(rt; column.place(0) == Some((2, 0)));
     assert!(rt; column.place(1) == None);
     assert!(rt; column.place(2) == Some((2, 5)));
+    Ok(())
 }

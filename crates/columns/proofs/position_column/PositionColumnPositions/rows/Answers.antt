@@ -1,6 +1,0 @@
-use Rattle.std.proofs.Common.{sym}
-use Rattle.source.proofs.Numbered.{length_rows_by}
-use Rattle.columns.proofs.position_column.PositionColumnPositions.rows.Goals as goal
-
-pub returns : goal.returns
-returns c = sym (length_rows_by _ c.args.self.now.rows)
