@@ -1,3 +1,1 @@
 pub mod Lying
-pub mod Parts
-pub mod Sets

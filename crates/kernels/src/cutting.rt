@@ -2,7 +2,7 @@
 ghost use Rattle.std.specs.Prelude.{◌≡◌, ℕ, List, length, take, drop, ℤ, IfOk, Result};
 ghost use Rattle.fault.specs.declared.Fault.{Fault as Faults};
 ghost use Rattle.kernels.specs.Cuts.{index_cut, none_refused, zero_refused};
-ghost use Rattle.source.specs.Verdicts.{Verdict};
+ghost use Rattle.source.specs.Verdicts.{Verdict, fault_of};
 ghost use Rattle.split.specs.Fields.{Part, answered, field_at};
 
 use fault::Fault;
@@ -16,9 +16,9 @@ pub trait Cutting {
 
     ghost refused: { ℤ → Verdict };
 
-    /// The fault of a number, whatever the row.
-    fn refuses(&self, number: i64) -> Option<Fault>
-        ensures { result ≡ refused number };
+    /// Refused for a number that is refused whatever the row.
+    fn check(&self, number: i64) -> Result<(), Fault>
+        ensures { fault_of result ≡ refused number };
 
     /// What is cut from a row, and its place there.
     fn cut_row<'t, F: Searcher>(
@@ -40,11 +40,11 @@ impl Cutting for SplitPart {
 
     ghost refused = { zero_refused };
 
-    fn refuses(&self, number: i64) -> Option<Fault> {
+    fn check(&self, number: i64) -> Result<(), Fault> {
         if number == 0 {
-            return Some(Fault::ZeroPosition { row: 0 });
+            return Err(Fault::ZeroPosition { row: 0 });
         }
-        None
+        Ok(())
     }
 
     fn cut_row<'t, F: Searcher>(
@@ -66,8 +66,8 @@ impl Cutting for SubstrIndex {
 
     ghost refused = { none_refused };
 
-    fn refuses(&self, _number: i64) -> Option<Fault> {
-        None
+    fn check(&self, _number: i64) -> Result<(), Fault> {
+        Ok(())
     }
 
     fn cut_row<'t, F: Searcher>(

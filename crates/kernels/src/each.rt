@@ -1,8 +1,6 @@
 //! Split and index with column operands: a delimiter and a number for each row.
-ghost use Rattle.std.specs.Prelude.{◌≡◌, ◌&&◌, ◌==◌};
-ghost use Rattle.kernels.specs.Cuts.{each_request};
-ghost use Rattle.kernels.specs.Shifts.{shifted};
-ghost use Rattle.kernels.specs.Spans.{ends};
+ghost use Rattle.kernels.specs.laws.Divided.{divides_each};
+ghost use Rattle.kernels.specs.Calls.{each_cuttable, of_each, part_of_each};
 
 use crate::cutting::Cutting;
 use crate::pieces::{null, part_of};
@@ -25,23 +23,17 @@ pub struct Each<'a, S, D, P, K> {
 
 impl<'t, 'a, S: Source<'t>, D: Source<'t>, P: Positions, K: Cutting> Call<'t>
     for Each<'a, S, D, P, K> {
-    ghost request = { λ c. each_request K.Cutting.cut c.window.first c.window.rows (S.Source.listed c.window.source.now) c.delimiters.first c.delimiters.rows (D.Source.listed c.delimiters.source.now) c.numbers.first c.numbers.rows (P.Positions.numbered c.numbers.source.now) };
+    ghost request = { of_each S.Source.listed D.Source.listed P.Positions.numbered K.Cutting.cut };
 
-    fn start(&self) -> Option<Fault> {
-        if !self.window.is_within(self.window.source.rows()) {
-            return Some(Fault::Window);
-        }
-        if !self.delimiters.is_within(self.delimiters.source.rows()) {
-            return Some(Fault::Window);
-        }
-        if !self.numbers.is_within(self.numbers.source.rows()) {
-            return Some(Fault::Window);
-        }
+    fn start(&self) -> Result<(), Fault> {
+        self.window.check(self.window.source.rows())?;
+        self.delimiters.check(self.delimiters.source.rows())?;
+        self.numbers.check(self.numbers.source.rows())?;
         let rows = self.window.rows;
         if self.delimiters.rows != rows || self.numbers.rows != rows {
-            return Some(Fault::OperandRows);
+            return Err(Fault::OperandRows);
         }
-        None
+        Ok(())
     }
 
     fn rows(&self) -> usize {
@@ -65,9 +57,9 @@ impl<'t, 'a, S: Source<'t>, D: Source<'t>, P: Positions, K: Cutting> Call<'t>
 
 impl<'t, 'a, S: Source<'t>, D: Source<'t>, P: Positions, K: Cutting + Copy> Divisible<'t>
     for Each<'a, S, D, P, K> {
-    ghost part = { λ c at rows. record { window = shifted c.window at rows; delimiters = shifted c.delimiters at rows; numbers = shifted c.numbers at rows; cutting = c.cutting } };
+    ghost part = { part_of_each };
 
-    ghost cuttable = { λ c. ends c.window.first c.window.rows && (ends c.delimiters.first c.delimiters.rows && (ends c.numbers.first c.numbers.rows && (c.delimiters.rows == c.window.rows && c.numbers.rows == c.window.rows))) };
+    ghost cuttable = { each_cuttable };
 
     fn window(&self, at: usize, rows: usize) -> Each<'a, S, D, P, K> {
         Each {
@@ -85,5 +77,5 @@ impl<'t, 'a, S: Source<'t>, D: Source<'t>, P: Positions, K: Cutting + Copy> Divi
         self.delimiters.rows == self.window.rows && self.numbers.rows == self.window.rows
     }
 
-    fn divides(&self) {}
+    ghost divides = { divides_each S.Source.listed D.Source.listed P.Positions.numbered K.Cutting.cut };
 }

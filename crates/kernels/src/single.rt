@@ -1,9 +1,6 @@
 //! Split and index with single operands.
-ghost use Rattle.std.specs.Prelude.{◌≡◌};
-ghost use Rattle.kernels.specs.Cuts.{single_request};
-ghost use Rattle.kernels.specs.Shifts.{shifted};
-ghost use Rattle.kernels.specs.Spans.{ends};
-ghost use Rattle.std.specs.Option.{option_map};
+ghost use Rattle.kernels.specs.laws.Divided.{divides_single};
+ghost use Rattle.kernels.specs.Calls.{of_single, part_of_single, single_cuttable};
 
 use crate::cutting::Cutting;
 use crate::pieces::{null, part_of};
@@ -25,18 +22,16 @@ pub struct Single<'a, S, F, K> {
 }
 
 impl<'t, 'a, S: Source<'t>, F: Searcher, K: Cutting> Call<'t> for Single<'a, S, F, K> {
-    ghost request = { λ c. single_request K.Cutting.cut K.Cutting.refused c.window.first c.window.rows (S.Source.listed c.window.source.now) (option_map F.Searcher.delimiter c.delimiter) c.number };
+    ghost request = { of_single S.Source.listed F.Searcher.delimiter K.Cutting.cut K.Cutting.refused };
 
-    fn start(&self) -> Option<Fault> {
-        if !self.window.is_within(self.window.source.rows()) {
-            return Some(Fault::Window);
-        }
+    fn start(&self) -> Result<(), Fault> {
+        self.window.check(self.window.source.rows())?;
         if self.window.rows == 0 {
-            return None;
+            return Ok(());
         }
         match (&self.delimiter, self.number) {
-            (Some(_), Some(number)) => self.cutting.refuses(number),
-            _ => None,
+            (Some(_), Some(number)) => self.cutting.check(number),
+            _ => Ok(()),
         }
     }
 
@@ -61,9 +56,9 @@ impl<'t, 'a, S: Source<'t>, F: Searcher, K: Cutting> Call<'t> for Single<'a, S, 
 
 impl<'t, 'a, S: Source<'t>, F: Searcher + Copy, K: Cutting + Copy> Divisible<'t>
     for Single<'a, S, F, K> {
-    ghost part = { λ c at rows. record { window = shifted c.window at rows; delimiter = c.delimiter; number = c.number; cutting = c.cutting } };
+    ghost part = { part_of_single };
 
-    ghost cuttable = { λ c. ends c.window.first c.window.rows };
+    ghost cuttable = { single_cuttable };
 
     fn window(&self, at: usize, rows: usize) -> Single<'a, S, F, K> {
         Single {
@@ -78,5 +73,5 @@ impl<'t, 'a, S: Source<'t>, F: Searcher + Copy, K: Cutting + Copy> Divisible<'t>
         self.window.ends()
     }
 
-    fn divides(&self) {}
+    ghost divides = { divides_single S.Source.listed F.Searcher.delimiter K.Cutting.cut K.Cutting.refused };
 }

@@ -1,9 +1,12 @@
 //! Windows as a call names them: a source, its first row and the number of rows. Whether they are there is for the call to say.
 ghost use Rattle.std.specs.Prelude.{◌≡◌, ◌+◌, ◌^◌, ◌<◌, true, is_some, nat_le};
+ghost use Rattle.fault.specs.declared.Fault.TheVariants.{Window};
 ghost use Rattle.kernels.specs.Shifts.{shifted};
 ghost use Rattle.kernels.specs.Spans.{ends, row_in};
+ghost use Rattle.source.specs.Verdicts.{fault_of, unless};
 ghost use Rattle.std.specs.Option.{option_map};
 
+use fault::Fault;
 use source::{Positions, Source};
 
 /// Rows of a source or of positions, from one on.
@@ -20,6 +23,16 @@ impl<'a, S> Span<'a, S> {
         ensures { result ≡ nat_le (self.now.first + self.now.rows) all }
     {
         self.first <= all && self.rows <= all - self.first
+    }
+
+    /// Refused where the rows are not among so many.
+    pub(crate) fn check(&self, all: usize) -> Result<(), Fault>
+        ensures { fault_of result ≡ unless (nat_le (self.now.first + self.now.rows) all) Window }
+    {
+        if self.is_within(all) {
+            return Ok(());
+        }
+        Err(Fault::Window)
     }
 
     /// Whether the row behind the last has a number.

@@ -1,8 +1,9 @@
 //! The trims.
-ghost use Rattle.std.specs.Prelude.{◌≡◌, ◌&&◌, length, take, drop};
-ghost use Rattle.kernels.specs.Shifts.{shifted};
-ghost use Rattle.kernels.specs.Spans.{ends};
-ghost use Rattle.kernels.specs.Trims.{set_at, sets_cuttable, sets_fault, sets_part, trim_request};
+ghost use Rattle.std.specs.Prelude.{◌≡◌, length, take, drop};
+ghost use Rattle.kernels.specs.laws.Divided.{divides_trim};
+ghost use Rattle.kernels.specs.Calls.{of_trim, part_of_trim, trim_cuttable};
+ghost use Rattle.kernels.specs.Trims.{set_at, sets_cuttable, sets_fault, sets_part};
+ghost use Rattle.source.specs.Verdicts.{fault_of};
 ghost use Rattle.split.specs.Fields.{part};
 ghost use Rattle.std.specs.Option.{option_map};
 ghost use Rattle.trim.specs.Trim.{trimmed};
@@ -36,22 +37,20 @@ impl<'a, D> Characters<'a, D> {
         }
     }
 
-    /// What is wrong with the sets of so many rows.
-    pub fn fault(&self, rows: usize) -> Option<Fault>
+    /// Refused for what is wrong with the sets of so many rows.
+    pub fn check(&self, rows: usize) -> Result<(), Fault>
     where
         D: Source<'a>,
-        ensures { result ≡ sets_fault D.Source.listed self.now rows }
+        ensures { fault_of result ≡ sets_fault D.Source.listed self.now rows }
     {
         let Characters::Each(sets) = self else {
-            return None;
+            return Ok(());
         };
-        if !sets.is_within(sets.source.rows()) {
-            return Some(Fault::Window);
-        }
+        sets.check(sets.source.rows())?;
         if sets.rows == 1 || sets.rows == rows {
-            return None;
+            return Ok(());
         }
-        Some(Fault::OperandRows)
+        Err(Fault::OperandRows)
     }
 
     /// The sets of so many rows from the row `at` on.
@@ -98,13 +97,11 @@ pub struct Trim<'a, S, D, T> {
 }
 
 impl<'a, S: Source<'a>, D: Source<'a>, T: Trimmer> Call<'a> for Trim<'a, S, D, T> {
-    ghost request = { λ c. trim_request T.Trimmer.left T.Trimmer.right (sets_fault D.Source.listed c.characters c.window.rows) c.window.first c.window.rows (S.Source.listed c.window.source.now) (set_at D.Source.listed c.characters) };
+    ghost request = { of_trim S.Source.listed D.Source.listed T.Trimmer.left T.Trimmer.right };
 
-    fn start(&self) -> Option<Fault> {
-        if !self.window.is_within(self.window.source.rows()) {
-            return Some(Fault::Window);
-        }
-        self.characters.fault(self.window.rows)
+    fn start(&self) -> Result<(), Fault> {
+        self.window.check(self.window.source.rows())?;
+        self.characters.check(self.window.rows)
     }
 
     fn rows(&self) -> usize {
@@ -123,9 +120,9 @@ impl<'a, S: Source<'a>, D: Source<'a>, T: Trimmer> Call<'a> for Trim<'a, S, D, T
 }
 
 impl<'a, S: Source<'a>, D: Source<'a>, T: Trimmer + Copy> Divisible<'a> for Trim<'a, S, D, T> {
-    ghost part = { λ c at rows. record { window = shifted c.window at rows; characters = sets_part c.characters at rows; trimmer = c.trimmer } };
+    ghost part = { part_of_trim };
 
-    ghost cuttable = { λ c. ends c.window.first c.window.rows && sets_cuttable c.characters c.window.rows };
+    ghost cuttable = { trim_cuttable };
 
     fn window(&self, at: usize, rows: usize) -> Trim<'a, S, D, T> {
         Trim {
@@ -139,5 +136,5 @@ impl<'a, S: Source<'a>, D: Source<'a>, T: Trimmer + Copy> Divisible<'a> for Trim
         self.window.ends() && self.characters.is_cuttable(self.window.rows)
     }
 
-    fn divides(&self) {}
+    ghost divides = { divides_trim S.Source.listed D.Source.listed T.Trimmer.left T.Trimmer.right };
 }

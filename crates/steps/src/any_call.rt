@@ -28,7 +28,7 @@ pub enum AnyCall<'a, S, D, P> {
 impl<'a, S: Source<'a>, D: Source<'a>, P: Positions> Call<'a> for AnyCall<'a, S, D, P> {
     ghost request = { call_request S.Source.listed D.Source.listed P.Positions.numbered };
 
-    fn start(&self) -> Option<Fault> {
+    fn start(&self) -> Result<(), Fault> {
         match self {
             AnyCall::Split(call) => call.start(),
             AnyCall::SplitEach(call) => call.start(),

@@ -10,7 +10,7 @@ use Rattle.kernels.specs.Trims.{set_at, sets_cuttable, sets_fault, sets_part}
 use Rattle.kernels.specs.declared.characters.Characters.{Characters}
 use Rattle.kernels.specs.declared.characters.Characters.TheVariants.{Omitted, Single, Each}
 use Rattle.kernels.specs.declared.span.Span.{Span}
-use Rattle.kernels.proofs.Parts.{both, inside_is, is_inside, none_of, of_none, shift_is}
+use Rattle.kernels.specs.laws.Parts.{both, inside_is, is_inside, none_of, of_none, shift_is}
 
 or_true : (b : Bool) → (b || true) ≡ true
 or_true true = refl

@@ -1,0 +1,3 @@
+pub mod Divided
+mod Parts
+mod Sets
