@@ -6,12 +6,12 @@ use Rattle.std.proofs.lemmas.List.{length_push, length-replicate, length-set, le
 use Rattle.std.proofs.lemmas.List.Edits.{length-paste}
 use Rattle.source.specs.Rows.{Row}
 use Rattle.text.specs.Steps.{formed}
-use Rattle.offset_layout.specs.Layout.{zeros, used, capacity, Holds}
-use Rattle.offset_layout.proofs.Bitmap.{bitmap_push, bitmap_null, bitmap_cut, bitmap_none}
+use Rattle.offset_layout.specs.Layout.{used, capacity, Holds}
+use Rattle.writing.specs.Padding.{zeros}
+use Rattle.writing.proofs.Bitmaps.{bitmap_push, bitmap_null, bitmap_cut, bitmap_none}
 use Rattle.offset_layout.proofs.Forms.{formed_push, formed_take}
 use Rattle.offset_layout.proofs.Offsets.{offsets_at, offset_low, offsets_push, offsets_cut, offsets_none}
 use Rattle.offset_layout.proofs.Values.{used_push, used_cut, values_push, values_null, values_cut, values_none}
-use Rattle.offset_layout.proofs.Wiping.{wiped_all}
 
 module _ {os : List ℤ} {vs bs : List ℕ} {rows : List Row} {n u : ℕ} (h : Holds os vs bs rows n u) (room : n < capacity (length os) (length bs)) where
   -- a text more
@@ -101,15 +101,12 @@ last_offset {os} {vs} {bs} {rows} {n} {u} h d l =
     ap (λ o. get_or o n d) h.offsets_are ∙ (offsets_at (length os) rows n d l ∙ ap pos (offset_low rows n (omega arith) ∙ (ap used all ∙ h.size)))
 
 -- memory that was cleared
-pub no_rows : (os : List ℤ) (vs bs : List ℕ) (l v b : ℕ) → length os ≡ l → length vs ≡ v → length bs ≡ b → Holds (paste os 0 (replicate (l - 0) (pos 0)) (l - 0)) (paste vs 0 (zeros (v - 0)) (v - 0)) (paste bs 0 (zeros (b - 0)) (b - 0)) [] 0 0
+pub no_rows : (os : List ℤ) (vs bs : List ℕ) (l v b : ℕ) → os ≡ replicate l (pos 0) → vs ≡ zeros v → bs ≡ zeros b → Holds os vs bs [] 0 0
 unfolding used
 no_rows os vs bs l v b eo ev eb =
-    let wo = wiped_all (pos 0) os l eo in
-    let wv = wiped_all 0 vs v ev in
-    let wb = wiped_all 0 bs b eb in
-    let lo : length (replicate l (pos 0)) ≡ l = length-replicate l (pos 0) in
-    let lv : length (zeros v) ≡ v = length-replicate v 0 in
-    let lb : length (zeros b) ≡ b = length-replicate b 0 in
+    let lo : length os ≡ l = ap length eo ∙ length-replicate l (pos 0) in
+    let lv : length vs ≡ v = ap length ev ∙ length-replicate v 0 in
+    let lb : length bs ≡ b = ap length eb ∙ length-replicate b 0 in
     let no = offsets_none l in
     let nv = values_none v in
     let nb = bitmap_none b in

@@ -1,6 +1,3 @@
-pub mod Wiping
-pub mod Bits
-pub mod Bitmap
 pub mod Values
 pub mod Offsets
 pub mod Forms

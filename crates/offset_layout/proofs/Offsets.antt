@@ -7,7 +7,7 @@ use Rattle.std.proofs.lemmas.List.FromFn.{length-map-range_with_len, get_or-map-
 use Rattle.std.proofs.lemmas.Bool.{cases_lt, cases_eq, le-leb, lt-leb}
 use Rattle.source.specs.Rows.{Row}
 use Rattle.offset_layout.specs.Layout.{used, offset, offsets_of}
-use Rattle.offset_layout.proofs.Wiping.{wiped_low, wiped_mid, wiped_high}
+use Rattle.writing.proofs.Wiping.{wiped_low, wiped_mid, wiped_high}
 
 pub offsets_at : (size : ℕ) (rows : List Row) (k : ℕ) (d : ℤ) → k < size → get_or (offsets_of size rows) k d ≡ pos (offset rows k)
 unfolding offsets_of

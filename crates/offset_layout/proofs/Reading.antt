@@ -1,27 +1,25 @@
 -- Memory that holds rows, read as a column: the rows come out again, and it may be opened.
-use Rattle.std.proofs.Common.{◌≡◌, ℕ, zero, suc, ◌+◌, ◌-◌, ◌*◌, ◌<◌, ◌≤◌, true, cond, eqb, List, length, get_or, take, ℤ, pos, is_some, Some, None, sym, refl, ap, ◌∙◌, arith}
-use Rattle.std.proofs.lemmas.List.{length-append, length-replicate, same_lists, get_or_default}
+use Rattle.std.proofs.Common.{◌≡◌, ℕ, zero, suc, ◌+◌, ◌*◌, ◌<◌, ◌≤◌, true, cond, eqb, List, length, get_or, take, ℤ, pos, is_some, Some, None, sym, refl, ap, ◌∙◌, arith}
+use Rattle.std.proofs.lemmas.List.{same_lists, get_or_default}
 use Rattle.std.proofs.lemmas.Bool.Decides.{nat_tests}
 use Rattle.std.specs.List.{flat_map}
 use Rattle.fault.specs.declared.Fault.TheVariants.{ShortList, Offset}
-use Rattle.bitmap.specs.Validity.{bit}
 use Rattle.source.specs.Rows.{Row}
 use Rattle.source.specs.Verdicts.{Verdict, then, unless, first_fault, malformed}
 use Rattle.source.proofs.Numbered.{length_rows_by, at_rows_by}
 use Rattle.columns.specs.Offsets.{Lists, place_of, part, row_at, rows_in, enough, row_fault, verdict}
 use Rattle.columns.proofs.Cutting.{in_order}
-use Rattle.offset_layout.specs.Layout.{zeros, bytes, bit_of, used, values_of, offsets_of, bitmap_of, row_formed, column, Holds}
-use Rattle.offset_layout.proofs.Bitmap.{bit_at}
+use Rattle.offset_layout.specs.Layout.{bytes, used, values_of, offsets_of, row_formed, column, Holds}
+use Rattle.writing.specs.Bitmaps.{bit_of, bitmap_of}
+use Rattle.writing.proofs.Bitmaps.{bit_bitmap}
+use Rattle.writing.proofs.Padding.{length_padded}
 use Rattle.offset_layout.proofs.Forms.{formed_at}
 use Rattle.offset_layout.proofs.Offsets.{offsets_at, offset_low}
 use Rattle.offset_layout.proofs.Values.{used_next, used_cut, text_at}
 
 length_values : (size : ℕ) (rows : List Row) → used rows ≤ size → length (values_of size rows) ≡ size
 unfolding used values_of
-length_values size rows h =
-    let a = length-append (flat_map bytes rows) (zeros (size - used rows)) in
-    let l : length (zeros (size - used rows)) ≡ size - used rows = length-replicate (size - used rows) 0 in
-    omega arith
+length_values size rows h = length_padded size (flat_map bytes rows) h
 
 again : (r : Row) → cond (eqb (bit_of r) 1) (Some (bytes r)) None ≡ r
 again None = refl
@@ -41,11 +39,10 @@ module _ (L V B : ℕ) (rows : List Row) (i : ℕ) (h : i < length rows) (ho : l
       sym (in_order (values_of V rows) _ _ (used (take i rows)) (used (take (i + 1) rows)) (place_is i (omega arith)) (place_is (i + 1) (omega arith)) (omega arith) (omega arith)) ∙ ap Some (text_at rows i h V)
 
   row_of_column : row_at (column (offsets_of L rows) (values_of V rows) (bitmap_of B rows)) i ≡ get_or rows i None
-  unfolding bit
   row_of_column =
       let m : Lists = column (offsets_of L rows) (values_of V rows) (bitmap_of B rows) in
       let r : Row = get_or rows i None in
-      ap (λ b. cond (eqb b 1) (part m i) None) (bit_at B rows i (omega arith)) ∙ (ap (λ p. cond (eqb (bit_of r) 1) p None) part_of ∙ again r)
+      ap (λ b. cond b (part m i) None) (bit_bitmap B rows i (omega arith)) ∙ (ap (λ p. cond (eqb (bit_of r) 1) p None) part_of ∙ again r)
 
 module _ {os : List ℤ} {vs bs : List ℕ} {rows : List Row} {n u : ℕ} (h : Holds os vs bs rows n u) where
   held : column os vs bs ≡ column (offsets_of (length os) rows) (values_of (length vs) rows) (bitmap_of (length bs) rows)

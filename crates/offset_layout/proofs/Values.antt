@@ -2,9 +2,12 @@
 use Rattle.std.proofs.Common.{◌≡◌, ℕ, ◌+◌, ◌-◌, ◌<◌, ◌≤◌, List, [], ◌∷◌, ◌++◌, length, get_or, take, drop, Some, None, sym, refl, ap, ◌∙◌, arith}
 use lib.Seq.{paste}
 use Rattle.std.specs.List.{flat_map, between}
-use Rattle.std.proofs.lemmas.List.{append-nil, append_assoc, length-append, length-replicate, take_at, drop_at, drop-drop, drop-replicate, flat_map_more, replicate-append-replicate, take_all, take_more, drop_more, take-append-drop}
+use Rattle.std.proofs.lemmas.Grind.{flat_map-append}
+use Rattle.std.proofs.lemmas.List.{append-nil, append_assoc, length-append, take_at, drop_at, flat_map_more, take_more, drop_more, take-append-drop}
 use Rattle.source.specs.Rows.{Row}
-use Rattle.offset_layout.specs.Layout.{zeros, bytes, used, values_of}
+use Rattle.offset_layout.specs.Layout.{bytes, used, values_of}
+use Rattle.writing.specs.Padding.{zeros, padded}
+use Rattle.writing.proofs.Padding.{padded_none, padded_push, padded_cut}
 
 -- the bytes of one row more
 joined_push : (rows : List Row) (r : Row) → flat_map bytes (rows ++ r ∷ []) ≡ flat_map bytes rows ++ bytes r
@@ -16,38 +19,24 @@ used_push rows r = ap length (joined_push rows r) ∙ length-append (flat_map by
 
 pub values_push : (size : ℕ) (rows : List Row) (t : List ℕ) (u : ℕ) → used rows ≡ u → u + length t ≤ size → paste (values_of size rows) u t (length t) ≡ values_of size (rows ++ Some t ∷ [])
 unfolding used values_of
-values_push size rows t u e fits =
-    let z : ℕ = size - length (flat_map bytes rows) in
-    let left : take u (flat_map bytes rows ++ zeros z) ≡ flat_map bytes rows = take_at (flat_map bytes rows) (zeros z) u e in
-    let right : drop u (flat_map bytes rows ++ zeros z) ≡ zeros z = drop_at (flat_map bytes rows) (zeros z) u e in
-    let more : drop (length t) (drop u (flat_map bytes rows ++ zeros z)) ≡ drop (u + length t) (flat_map bytes rows ++ zeros z) = drop-drop (length t) u (flat_map bytes rows ++ zeros z) in
-    let rest : drop (length t) (zeros z) ≡ zeros (z - length t) = drop-replicate (length t) z 0 in
-    let whole : take (length t) t ≡ t = take_all (length t) t (omega arith) in
-    let n : length (flat_map bytes (rows ++ Some t ∷ [])) ≡ length (flat_map bytes rows) + length t = ap length (joined_push rows (Some t)) ∙ length-append (flat_map bytes rows) t in
-    let m : size - length (flat_map bytes (rows ++ Some t ∷ [])) ≡ z - length t = omega arith in
-    let j = joined_push rows (Some t) in
-    cc
+values_push size rows t u e fits = padded_push size (flat_map bytes rows) t u e fits ∙ ap (padded size) (sym (joined_push rows (Some t)))
 
 pub values_null : (size : ℕ) (rows : List Row) → values_of size rows ≡ values_of size (rows ++ None ∷ [])
-unfolding used values_of
-values_null size rows = let j : flat_map bytes (rows ++ None ∷ []) ≡ flat_map bytes rows = joined_push rows None ∙ append-nil (flat_map bytes rows) in cc
-
-joined_append : (xs ys : List Row) → flat_map bytes (xs ++ ys) ≡ flat_map bytes xs ++ flat_map bytes ys
-joined_append [] ys = refl
-joined_append (x ∷ xs) ys = ap (λ zs. bytes x ++ zs) (joined_append xs ys) ∙ sym (append_assoc (bytes x) (flat_map bytes xs) (flat_map bytes ys))
+unfolding values_of
+values_null size rows = ap (padded size) (sym (joined_push rows None ∙ append-nil (flat_map bytes rows)))
 
 module _ (rows : List Row) (i : ℕ) (h : i < length rows) where
   pub used_next : used (take (i + 1) rows) ≡ used (take i rows) + length (bytes (get_or rows i None))
   used_next = ap used (take_more rows i None h) ∙ used_push (take i rows) (get_or rows i None)
 
   pub text_at : (size : ℕ) → between (used (take i rows)) (used (take (i + 1) rows)) (values_of size rows) ≡ bytes (get_or rows i None)
-  unfolding used values_of
+  unfolding used values_of padded
   text_at size =
       let r : Row = get_or rows i None in
       let a : List ℕ = flat_map bytes (take i rows) in
       let c : List ℕ = flat_map bytes (drop (i + 1) rows) in
       let z : List ℕ = zeros (size - length (flat_map bytes rows)) in
-      let parts : flat_map bytes (take i rows ++ drop i rows) ≡ a ++ flat_map bytes (drop i rows) = joined_append (take i rows) (drop i rows) in
+      let parts : flat_map bytes (take i rows ++ drop i rows) ≡ a ++ flat_map bytes (drop i rows) = flat_map-append bytes (take i rows) (drop i rows) in
       let whole : take i rows ++ drop i rows ≡ rows = take-append-drop i rows in
       let next : drop i rows ≡ r ∷ drop (i + 1) rows = drop_more rows i None h in
       let first : flat_map bytes (r ∷ drop (i + 1) rows) ≡ bytes r ++ c = refl in
@@ -61,13 +50,14 @@ module _ (rows : List Row) (i : ℕ) (h : i < length rows) where
 
 -- the rows before the n-th alone
 module _ (rows : List Row) (n : ℕ) (le : n ≤ length rows) where
+  parted : flat_map bytes rows ≡ flat_map bytes (take n rows) ++ flat_map bytes (drop n rows)
+  parted = ap (flat_map bytes) (sym (take-append-drop n rows)) ∙ flat_map-append bytes (take n rows) (drop n rows)
+
   pub used_cut : used (take n rows) ≤ used rows
   unfolding used
   used_cut =
-      let p : flat_map bytes (take n rows ++ drop n rows) ≡ flat_map bytes (take n rows) ++ flat_map bytes (drop n rows) = joined_append (take n rows) (drop n rows) in
-      let w : take n rows ++ drop n rows ≡ rows = take-append-drop n rows in
+      let e = ap length parted in
       let l = length-append (flat_map bytes (take n rows)) (flat_map bytes (drop n rows)) in
-      let e : length (flat_map bytes rows) ≡ length (flat_map bytes (take n rows) ++ flat_map bytes (drop n rows)) = cc in
       omega arith
 
   pub values_cut : (size k u : ℕ) → used (take n rows) ≡ k → used rows ≡ u → u ≤ size → paste (values_of size rows) k (zeros (u - k)) (u - k) ≡ values_of size (take n rows)
@@ -75,21 +65,10 @@ module _ (rows : List Row) (n : ℕ) (le : n ≤ length rows) where
   values_cut size k u ek eu fits =
       let a : List ℕ = flat_map bytes (take n rows) in
       let b : List ℕ = flat_map bytes (drop n rows) in
-      let z : List ℕ = zeros (size - length (flat_map bytes rows)) in
-      let p : flat_map bytes (take n rows ++ drop n rows) ≡ a ++ b = joined_append (take n rows) (drop n rows) in
-      let w : take n rows ++ drop n rows ≡ rows = take-append-drop n rows in
-      let j : flat_map bytes rows ≡ a ++ b = cc in
-      let uc = used_cut in
-      let s1 : (a ++ b) ++ z ≡ a ++ (b ++ z) = append_assoc a b z in
-      let t1 : take k (a ++ (b ++ z)) ≡ a = take_at a (b ++ z) k ek in
-      let t2 : take (u - k) (zeros (u - k)) ≡ zeros (u - k) = take_all (u - k) (zeros (u - k)) (let l : length (zeros (u - k)) ≡ u - k = length-replicate (u - k) 0 in omega arith) in
-      let ku : k + (u - k) ≡ u = omega arith in
-      let d1 : drop u (flat_map bytes rows ++ z) ≡ z = drop_at (flat_map bytes rows) z u eu in
-      let rs : zeros (u - k) ++ z ≡ zeros (u - k + (size - length (flat_map bytes rows))) = replicate-append-replicate (u - k) (size - length (flat_map bytes rows)) 0 in
-      let nn : u - k + (size - length (flat_map bytes rows)) ≡ size - length a = omega arith in
-      let s2 : (a ++ zeros (u - k)) ++ z ≡ a ++ (zeros (u - k) ++ z) = append_assoc a (zeros (u - k)) z in
-      cc
+      let e = ap length parted in
+      let l = length-append a b in
+      ap (λ xs. paste (padded size xs) k (zeros (u - k)) (u - k)) parted ∙ padded_cut size a b k (u - k) ek (omega arith) (omega arith)
 
 pub values_none : (size : ℕ) → values_of size [] ≡ zeros size
-unfolding values_of used
-values_none size = ap zeros (omega arith)
+unfolding values_of
+values_none size = padded_none size

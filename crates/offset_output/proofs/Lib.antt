@@ -1,3 +1,3 @@
 pub mod Nulls
-pub mod Stored
 pub mod Cleared
+pub mod Growing

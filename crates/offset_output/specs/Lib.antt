@@ -1,3 +1,3 @@
 pub mod Widths
 pub mod Memories
-pub mod Stores
+pub mod Fillings

@@ -2,12 +2,10 @@
 //! A finished output is read as an offset column.
 #![tactic(auto)]
 
-mod cells;
-mod extent;
+pub mod filled;
+mod filling;
 pub mod memory;
-pub mod offset_output_32;
-pub mod offset_output_64;
-mod store;
+pub mod offset_output;
 pub mod width;
 pub mod width_32;
 pub mod width_64;

@@ -13,5 +13,5 @@ pub trait OffsetWidth: Width {
 
     /// Where a text ends; nothing where that is past the largest offset. No sum may wrap.
     fn end(start: usize, len: usize) -> Option<Self>
-        ensures { option_map Self.Width.number result ≡ offset_at Self.Width.most (start + len) };
+        ensures { option_map Self.Width.number result ≡ offset_at Self.Width.LARGEST (start + len) };
 }

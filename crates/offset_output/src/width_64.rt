@@ -1,6 +1,5 @@
 //! Signed 64-bit offsets.
 use crate::width::OffsetWidth;
-use columns::width::Width;
 
 impl OffsetWidth for i64 {
     fn zero() -> i64 {
@@ -8,10 +7,6 @@ impl OffsetWidth for i64 {
     }
 
     fn end(start: usize, len: usize) -> Option<i64> {
-        let largest = <i64 as Width>::most() as usize;
-        if start > largest || len > largest - start {
-            return None;
-        }
-        Some((start + len) as i64)
+        i64::try_from(start.checked_add(len)?).ok()
     }
 }

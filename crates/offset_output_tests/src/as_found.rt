@@ -12,5 +12,4 @@ pub fn tried<O: Output>(out: &mut O, piece: Piece<'_>)
     let slip = out.open();
     let _ = out.add(piece);
     out.discard(slip);
-    out.fixed();
 }

@@ -1,29 +1,29 @@
 //! Batches that are kept and discarded.
-use crate::rows::{null, text, told};
+use crate::rows::{null, refused, text};
 use offset_output::memory::Memory;
-use offset_output::offset_output_64::OffsetOutput64;
+use offset_output::offset_output::OffsetOutput;
 use output::Output;
 
 /// Keeps one row, then adds four, the second of them in vain, and discards those.
-fn discarded(out: &mut OffsetOutput64<'_>) -> (u8, u8, u8, u8) {
+fn discarded(out: &mut OffsetOutput<'_, i64>) -> [Option<u8>; 4] {
     let slip = out.open();
-    let _ = told(out.add(text("hi")));
+    let _ = refused(out.add(text("hi")));
     out.keep(slip);
     let slip = out.open();
-    let first = told(out.add(text("abc")));
-    let second = told(out.add(text("def")));
-    let third = told(out.add(null()));
-    let fourth = told(out.add(text("de")));
+    let first = refused(out.add(text("abc")));
+    let second = refused(out.add(text("def")));
+    let third = refused(out.add(null()));
+    let fourth = refused(out.add(text("de")));
     out.discard(slip);
-    (first, second, third, fourth)
+    [first, second, third, fourth]
 }
 
 #[test]
 fn discarded_rows_leave_nothing_behind(rt: HostRuntime) {
-    let mut offsets = [7; 12];
+    let mut offsets: [i64; 12] = [7; 12];
     let mut values = [7; 7];
     let mut validity = [7; 2];
-    let mut out = OffsetOutput64::new(Memory {
+    let mut out = OffsetOutput::new(Memory {
         offsets: &mut offsets,
         values: &mut values,
         validity: &mut validity,
@@ -37,7 +37,7 @@ fn discarded_rows_leave_nothing_behind(rt: HostRuntime) {
         validity,
     } = memory;
     assert!(rt;
-        answers == (0, 12, 0, 0),
+        answers == [None, Some(12), None, None],
         "after an add that was refused the next go on"
     );
     assert!(rt; rows == 1 && counts.rows == 1 && counts.nulls == 0 && counts.value_bytes == 2);

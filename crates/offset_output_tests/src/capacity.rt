@@ -1,54 +1,26 @@
 //! Outputs that are exactly full.
-use crate::rows::{text, told};
+use crate::rows::{refused, text};
 use offset_output::memory::Memory;
-use offset_output::offset_output_32::OffsetOutput32;
-use offset_output::offset_output_64::OffsetOutput64;
+use offset_output::offset_output::OffsetOutput;
 use offset_output::width::OffsetWidth;
 use output::Output;
 
 /// Adds the texts, up to one that is refused: the number of its fault.
-fn add_all<O: Output>(out: &mut O, texts: &[&str]) -> u8 {
+fn add_all<O: Output>(out: &mut O, texts: &[&str]) -> Option<u8> {
     let slip = out.open();
-    let mut number = 0;
-    for t in texts {
-        number = told(out.add(text(t)));
-        if number != 0 {
-            break;
-        }
-    }
+    let added = texts.iter().try_for_each(|t| out.add(text(t)));
     out.keep(slip);
-    number
+    refused(added)
 }
 
 /// The fault's number, the rows and the value bytes.
-fn written32(
-    offsets: &mut [i32],
-    values: &mut [u8],
-    validity: &mut [u8],
+fn written<'a, W: OffsetWidth>(
+    offsets: &'a mut [W],
+    values: &'a mut [u8],
+    validity: &'a mut [u8],
     texts: &[&str],
-) -> (u8, usize, usize) {
-    let mut out = OffsetOutput32::new(Memory {
-        offsets,
-        values,
-        validity,
-    });
-    let number = add_all(&mut out, texts);
-    let (counts, memory) = out.finish();
-    let Memory {
-        offsets: _,
-        values: _,
-        validity: _,
-    } = memory;
-    (number, counts.rows, counts.value_bytes)
-}
-
-fn written64(
-    offsets: &mut [i64],
-    values: &mut [u8],
-    validity: &mut [u8],
-    texts: &[&str],
-) -> (u8, usize, usize) {
-    let mut out = OffsetOutput64::new(Memory {
+) -> (Option<u8>, usize, usize) {
+    let mut out = OffsetOutput::new(Memory {
         offsets,
         values,
         validity,
@@ -65,15 +37,19 @@ fn written64(
 
 #[test]
 fn full_by_rows(rt: HostRuntime) {
-    assert!(rt; written32(&mut [7; 3], &mut [7; 9], &mut [7], &["a", "b"]) == (0, 2, 2));
-    assert!(rt; written32(&mut [7; 3], &mut [7; 9], &mut [7], &["a", "b", "c"]) == (9, 2, 2));
-    assert!(rt; written64(&mut [7; 3], &mut [7; 9], &mut [7], &["a", "b", "c"]) == (9, 2, 2));
+    assert!(rt; written::<i32>(&mut [7; 3], &mut [7; 9], &mut [7], &["a", "b"]) == (None, 2, 2));
     assert!(rt;
-        written32(&mut [], &mut [7; 9], &mut [7], &[""]) == (9, 0, 0),
+        written::<i32>(&mut [7; 3], &mut [7; 9], &mut [7], &["a", "b", "c"]) == (Some(9), 2, 2)
+    );
+    assert!(rt;
+        written::<i64>(&mut [7; 3], &mut [7; 9], &mut [7], &["a", "b", "c"]) == (Some(9), 2, 2)
+    );
+    assert!(rt;
+        written::<i32>(&mut [], &mut [7; 9], &mut [7], &[""]) == (Some(9), 0, 0),
         "no offsets"
     );
     assert!(rt;
-        written64(&mut [7; 2], &mut [7; 9], &mut [], &[""]) == (9, 0, 0),
+        written::<i64>(&mut [7; 2], &mut [7; 9], &mut [], &[""]) == (Some(9), 0, 0),
         "no bitmap"
     );
 }
@@ -81,18 +57,24 @@ fn full_by_rows(rt: HostRuntime) {
 #[test]
 fn full_by_the_bitmap(rt: HostRuntime) {
     let texts = ["a", "", "b", "", "c", "", "d", "", "e"];
-    assert!(rt; written32(&mut [7; 20], &mut [7; 9], &mut [7], &texts) == (9, 8, 4));
-    assert!(rt; written64(&mut [7; 20], &mut [7; 9], &mut [7; 2], &texts) == (0, 9, 5));
+    assert!(rt; written::<i32>(&mut [7; 20], &mut [7; 9], &mut [7], &texts) == (Some(9), 8, 4));
+    assert!(rt; written::<i64>(&mut [7; 20], &mut [7; 9], &mut [7; 2], &texts) == (None, 9, 5));
 }
 
 #[test]
 fn full_by_bytes(rt: HostRuntime) {
-    assert!(rt; written32(&mut [7; 9], &mut [7; 4], &mut [7], &["ab", "cd", ""]) == (0, 3, 4));
-    assert!(rt; written32(&mut [7; 9], &mut [7; 4], &mut [7], &["ab", "cde"]) == (12, 1, 2));
-    assert!(rt; written64(&mut [7; 9], &mut [7; 4], &mut [7], &["ab", "cd", "e"]) == (12, 2, 4));
-    assert!(rt; written64(&mut [7; 2], &mut [], &mut [7], &["ab", "cde"]) == (12, 0, 0));
     assert!(rt;
-        written64(&mut [7; 2], &mut [7; 2], &mut [7], &["ab", "cde"]) == (9, 1, 2),
+        written::<i32>(&mut [7; 9], &mut [7; 4], &mut [7], &["ab", "cd", ""]) == (None, 3, 4)
+    );
+    assert!(rt;
+        written::<i32>(&mut [7; 9], &mut [7; 4], &mut [7], &["ab", "cde"]) == (Some(12), 1, 2)
+    );
+    assert!(rt;
+        written::<i64>(&mut [7; 9], &mut [7; 4], &mut [7], &["ab", "cd", "e"]) == (Some(12), 2, 4)
+    );
+    assert!(rt; written::<i64>(&mut [7; 2], &mut [], &mut [7], &["ab", "cde"]) == (Some(12), 0, 0));
+    assert!(rt;
+        written::<i64>(&mut [7; 2], &mut [7; 2], &mut [7], &["ab", "cde"]) == (Some(9), 1, 2),
         "rows before bytes"
     );
 }

@@ -18,10 +18,7 @@ pub fn null() -> Piece<'static> {
     }
 }
 
-/// The fault's number; 0 where there is none.
-pub fn told(added: Result<(), Fault>) -> u8 {
-    match added {
-        Ok(()) => 0,
-        Err(fault) => fault.number(),
-    }
+/// The number of the fault, where a row was refused.
+pub fn refused(added: Result<(), Fault>) -> Option<u8> {
+    added.err().map(|fault| fault.number())
 }

@@ -31,7 +31,7 @@ impl Slip {
 }
 
 /// What an output holds when it is finished. A count that its kind lacks is 0.
-#[derive(Clone, Copy, PartialEq, Eq, Debug)]
+#[derive(Clone, Copy, PartialEq, Eq, Debug, Default)]
 pub struct Counts {
     pub rows: usize,
     pub nulls: usize,

@@ -24,7 +24,7 @@ fn put_short(views: &mut [u8], at: usize, text: &[u8])
 {
     put_word(views, at, text.len() as u32);
     put_text(views, at + 4, text);
-    wipe(views, at + 4 + text.len(), at + 16);
+    wipe(views, at + 4 + text.len(), at + 16, 0);
 }
 
 /// Writes the view of a longer text, which lies in a buffer.

@@ -5,4 +5,6 @@ pub mod Writes
 pub mod Places
 pub mod Verdicts
 pub mod Counting
-pub mod Judging
+pub mod Keeping
+pub mod Putting
+pub mod Cleared

@@ -11,7 +11,7 @@ use Rattle.view_cells.specs.Views.{view_of}
 use Rattle.view_cells.proofs.Decode.{view_short, length_view}
 use Rattle.writing.specs.Padding.{zeros, padded}
 use Rattle.writing.specs.Bitmaps.{bitmap_of, marked}
-use Rattle.writing.proofs.Padding.{padded_none, padded_push, padded_cut, padded_set, padded_zeros, wiped_all}
+use Rattle.writing.proofs.Padding.{padded_none, padded_push, padded_cut, padded_set, padded_zeros}
 use Rattle.writing.proofs.Bitmaps.{bitmap_push, bitmap_null, bitmap_cut, bitmap_none}
 use Rattle.view_memory.specs.Layout.{nothing, with_text, with_rows, buffers_of, buffer_for, offset_for, view_for, views_from, views_of, ends_of, data_of}
 use Rattle.view_memory.specs.Rule.{capacity, end_capacity}
@@ -263,24 +263,20 @@ cut_rows {vs} {bs} {es} {ds} {rows} h n m j k u w lt em ej ek eu ew vs' bs' bs''
     }
 
 -- memory that holds no rows is all zeros
-pub no_rows : (vs bs es ds vs' bs' es' ds' : List ℕ) → vs' ≡ paste vs 0 (zeros (length vs - 0)) (length vs - 0) → bs' ≡ paste bs 0 (zeros (length bs - 0)) (length bs - 0) → es' ≡ paste es 0 (zeros (length es - 0)) (length es - 0) → ds' ≡ paste ds 0 (zeros (length ds - 0)) (length ds - 0) → Holds vs' bs' es' ds' []
+pub no_rows : (vs bs es ds : List ℕ) (n m k u : ℕ) → vs ≡ zeros n → bs ≡ zeros m → es ≡ zeros k → ds ≡ zeros u → Holds vs bs es ds []
 unfolding buffers_of views_of ends_of data_of
-no_rows vs bs es ds vs' bs' es' ds' ev eb ee ed =
-    let v : vs' ≡ zeros (length vs) = ev ∙ wiped_all vs (length vs) refl in
-    let b : bs' ≡ zeros (length bs) = eb ∙ wiped_all bs (length bs) refl in
-    let e : es' ≡ zeros (length es) = ee ∙ wiped_all es (length es) refl in
-    let d : ds' ≡ zeros (length ds) = ed ∙ wiped_all ds (length ds) refl in
-    let lv : length vs' ≡ length vs = ap length v ∙ length-replicate (length vs) 0 in
-    let lb : length bs' ≡ length bs = ap length b ∙ length-replicate (length bs) 0 in
-    let le : length es' ≡ length es = ap length e ∙ length-replicate (length es) 0 in
-    let ld : length ds' ≡ length ds = ap length d ∙ length-replicate (length ds) 0 in
+no_rows vs bs es ds n m k u v b e d =
+    let lv : length vs ≡ n = ap length v ∙ length-replicate n 0 in
+    let lb : length bs ≡ m = ap length b ∙ length-replicate m 0 in
+    let le : length es ≡ k = ap length e ∙ length-replicate k 0 in
+    let ld : length ds ≡ u = ap length d ∙ length-replicate u 0 in
     record {
       room = omega arith;
       few = omega arith;
       fits = omega arith;
       sound = λ k. refl;
-      views_are = v ∙ (ap zeros (sym lv) ∙ sym (padded_none (length vs')));
-      bitmap_is = b ∙ (ap zeros (sym lb) ∙ sym (bitmap_none (length bs')));
-      ends_are = e ∙ (ap zeros (sym le) ∙ sym (padded_none (length es')));
-      bytes_are = d ∙ (ap zeros (sym ld) ∙ sym (padded_none (length ds')));
+      views_are = v ∙ (ap zeros (sym lv) ∙ sym (padded_none (length vs)));
+      bitmap_is = b ∙ (ap zeros (sym lb) ∙ sym (bitmap_none (length bs)));
+      ends_are = e ∙ (ap zeros (sym le) ∙ sym (padded_none (length es)));
+      bytes_are = d ∙ (ap zeros (sym ld) ∙ sym (padded_none (length ds)));
     }

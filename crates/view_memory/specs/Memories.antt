@@ -1,12 +1,13 @@
 -- The memory of a view output, by the rows in it.
-use Rattle.std.specs.Prelude.{◌≡◌, ℕ, ◌+◌, cond, List, [], ◌∷◌, ◌++◌, length, Some, None, nat_le}
+use Rattle.std.specs.Prelude.{◌≡◌, ℕ, ◌+◌, ◌≤◌, cond, List, [], ◌∷◌, ◌++◌, length, take, Some, None, nat_le}
 use Rattle.output.specs.declared.Counts.{Counts}
 use Rattle.output.specs.Rows.{Rule, nulls_in}
 use Rattle.source.specs.Rows.{Row}
 use Rattle.views.specs.Layout.{Lists, rows_in}
-use Rattle.view_memory.specs.Layout.{buffers_of}
+use Rattle.view_memory.specs.Layout.{buffers_of, data_of, ends_of, views_of}
 use Rattle.view_memory.specs.Rule.{capacity, end_capacity, view_rule}
 use Rattle.view_memory.specs.Holding.{lists_of, Holds}
+use Rattle.writing.specs.Bitmaps.{bitmap_of}
 use Rattle.view_memory.specs.declared.memory.Memory.{Memory}
 
 -- a column over the memory, with the rows and the ends counted
@@ -44,6 +45,11 @@ Counted c rows =
     × (c.buffers ≡ length (buffers_of rows).ends)
     × (c.long_views ≡ longs_in rows)
 
+-- the first of the rows held are kept; they take so much
+pub record Keeps (m : Memory) (kept held : Counts) : Type 0 where
+  pub first : kept.rows ≤ held.rows
+  pub counts : Counted kept (take kept.rows (rows_of m held))
+
 -- the rule, by the sizes of the memory
 abbrev pub rule_of : Memory → Rule
 rule_of m = view_rule (capacity (length m.views.now) (length m.validity.now)) (end_capacity (length m.ends.now)) (length m.bytes.now)
@@ -55,8 +61,21 @@ SameSizes m k =
     × (length k.ends.now ≡ length m.ends.now)
     × (length k.bytes.now ≡ length m.bytes.now)
 
--- a row more behind those held: c counts them all
-pub record Added (m k : Memory) (held : Counts) (row : Row) (c : Counts) : Type 0 where
-  pub sizes : SameSizes m k
-  pub holds : Has k (rows_of m held ++ row ∷ [])
-  pub counted : Counted c (rows_of m held ++ row ∷ [])
+-- the sizes of memory
+abbrev pub sizes_of : Memory → List ℕ
+sizes_of m = length m.views.now ∷ length m.validity.now ∷ length m.ends.now ∷ length m.bytes.now ∷ []
+
+-- all memory, as one list
+abbrev pub laid : (views bitmap ends bytes : List ℕ) → List ℕ
+laid views bitmap ends bytes = views ++ (bitmap ++ (ends ++ bytes))
+
+abbrev pub memory_of : Memory → List ℕ
+memory_of m = laid m.views.now m.validity.now m.ends.now m.bytes.now
+
+-- what memory of these sizes holds with these rows in it: what is beyond the rows is zero
+abbrev pub image : List ℕ → List Row → List ℕ
+image [] rows = []
+image (v ∷ []) rows = []
+image (v ∷ b ∷ []) rows = []
+image (v ∷ b ∷ e ∷ []) rows = []
+image (v ∷ b ∷ e ∷ d ∷ rest) rows = laid (views_of v rows) (bitmap_of b rows) (ends_of e rows) (data_of d rows)

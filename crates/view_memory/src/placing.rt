@@ -1,13 +1,14 @@
 //! Where a text goes, and whether it may.
 ghost use Rattle.std.specs.Prelude.{◌≡◌, ◌&&◌, length, nat_le, nat_lt};
+ghost use Rattle.source.specs.Verdicts.{fault_of};
 ghost use Rattle.std.specs.Option.{option_map};
+ghost use Rattle.view_memory.specs.Fillings.{held_rows};
 ghost use Rattle.view_memory.specs.Layout.{buffer_for, buffers_of, filled, offset_for, opens};
-ghost use Rattle.view_memory.specs.Memories.{Counted, Has, rows_of, rule_of};
+ghost use Rattle.view_memory.specs.Memories.{rule_of};
 ghost use Rattle.view_memory.specs.Rule.{capacity, end_capacity, text_verdict};
 
-use crate::memory::Memory;
+use crate::filled::Filled;
 use fault::Fault;
-use output::Counts;
 use view_cells::cells::SHORT;
 
 /// A buffer that holds several texts holds at most so many bytes; a longer text has one of its own.
@@ -16,94 +17,83 @@ const BUFFER_BYTES: usize = 8192;
 /// A view's length, and a buffer's number, is a signed 32-bit number.
 const LARGEST: usize = 2147483647;
 
-impl Memory<'_> {
-    /// Whether there is room for a row behind others. No product may wrap.
-    fn has_room(&self, rows: usize) -> bool
-        ensures { result ≡ nat_lt rows (capacity (length self.now.views.now) (length self.now.validity.now)) }
+impl Filled<'_> {
+    /// Whether there is room for a row more. No product may wrap.
+    fn has_room(&self) -> bool
+        ensures { result ≡ nat_lt self.now.held.rows (capacity (length self.now.memory.views.now) (length self.now.memory.validity.now)) }
     {
-        rows < self.views.len() / 16 && rows / 8 < self.validity.len()
+        self.held.rows < self.memory.views.len() / 16
+            && self.held.rows / 8 < self.memory.validity.len()
     }
 
     /// The bytes in the last buffer.
-    fn filled(&self, held: Counts) -> usize
-        requires holds { Has self.now (rows_of self.now held) }
-        requires counted { Counted held (rows_of self.now held) }
-        ensures { result ≡ filled (buffers_of (rows_of self.now held)) }
+    fn filled(&self) -> usize
+        ensures { result ≡ filled (buffers_of (held_rows self.now)) }
     {
-        if held.buffers <= 1 {
-            return held.value_bytes;
+        if self.held.buffers <= 1 {
+            return self.held.value_bytes;
         }
-        held.value_bytes - self.ends[held.buffers - 2] as usize
+        self.held.value_bytes - self.memory.ends[self.held.buffers - 2] as usize
     }
 
     /// Whether a text opens a new buffer.
-    fn opens(&self, held: Counts, len: usize) -> bool
-        requires holds { Has self.now (rows_of self.now held) }
-        requires counted { Counted held (rows_of self.now held) }
-        ensures { result ≡ opens (buffers_of (rows_of self.now held)) len }
+    fn opens(&self, len: usize) -> bool
+        ensures { result ≡ opens (buffers_of (held_rows self.now)) len }
     {
-        if held.buffers == 0 {
+        if self.held.buffers == 0 {
             return true;
         }
-        let filled = self.filled(held);
+        let filled = self.filled();
         filled > BUFFER_BYTES || len > BUFFER_BYTES - filled
     }
 
     /// The buffer and the offset in it for a text.
-    pub(crate) fn place(&self, held: Counts, len: usize) -> (usize, usize)
-        requires holds { Has self.now (rows_of self.now held) }
-        requires counted { Counted held (rows_of self.now held) }
-        ensures buffer { result.0 ≡ buffer_for (buffers_of (rows_of self.now held)) len }
-        ensures offset { result.1 ≡ offset_for (buffers_of (rows_of self.now held)) len }
+    pub(crate) fn place(&self, len: usize) -> (usize, usize)
+        ensures buffer { result.0 ≡ buffer_for (buffers_of (held_rows self.now)) len }
+        ensures offset { result.1 ≡ offset_for (buffers_of (held_rows self.now)) len }
     {
-        if self.opens(held, len) {
-            return (held.buffers, 0);
+        if self.opens(len) {
+            return (self.held.buffers, 0);
         }
-        (held.buffers - 1, self.filled(held))
+        (self.held.buffers - 1, self.filled())
     }
 
     /// Whether a text opens a new buffer that there is no end for.
-    fn lacks_ends(&self, held: Counts, len: usize) -> bool
-        requires holds { Has self.now (rows_of self.now held) }
-        requires counted { Counted held (rows_of self.now held) }
-        ensures { result ≡ (opens (buffers_of (rows_of self.now held)) len && nat_le (end_capacity (length self.now.ends.now)) (length (buffers_of (rows_of self.now held)).ends)) }
+    fn lacks_ends(&self, len: usize) -> bool
+        ensures { result ≡ (opens (buffers_of (held_rows self.now)) len && nat_le (end_capacity (length self.now.memory.ends.now)) (length (buffers_of (held_rows self.now)).ends)) }
     {
-        self.opens(held, len) && held.buffers >= self.ends.len().min(LARGEST)
+        self.opens(len) && self.held.buffers >= self.memory.ends.len().min(LARGEST)
     }
 
-    /// The fault of a text, where there is room for its view.
-    fn text_fault(&self, held: Counts, len: usize) -> Option<Fault>
-        requires holds { Has self.now (rows_of self.now held) }
-        requires counted { Counted held (rows_of self.now held) }
-        ensures { result ≡ text_verdict (end_capacity (length self.now.ends.now)) (length self.now.bytes.now) (buffers_of (rows_of self.now held)) len }
+    /// Refuses a text, where there is room for its view.
+    fn check_text(&self, len: usize) -> Result<(), Fault>
+        ensures { fault_of result ≡ text_verdict (end_capacity (length self.now.memory.ends.now)) (length self.now.memory.bytes.now) (buffers_of (held_rows self.now)) len }
     {
         if len > LARGEST {
-            return Some(Fault::TooLong { row: 0 });
+            return Err(Fault::TooLong { row: 0 });
         }
         if len <= SHORT {
-            return None;
+            return Ok(());
         }
-        if self.lacks_ends(held, len) {
-            return Some(Fault::EndsFull { row: 0 });
+        if self.lacks_ends(len) {
+            return Err(Fault::EndsFull { row: 0 });
         }
-        if len > self.bytes.len() - held.value_bytes {
-            return Some(Fault::BytesFull { row: 0 });
+        if len > self.memory.bytes.len() - self.held.value_bytes {
+            return Err(Fault::BytesFull { row: 0 });
         }
-        None
+        Ok(())
     }
 
-    /// The fault of a coming row.
-    pub(crate) fn fault(&self, held: Counts, text: Option<&str>) -> Option<Fault>
-        requires holds { Has self.now (rows_of self.now held) }
-        requires counted { Counted held (rows_of self.now held) }
-        ensures { result ≡ rule_of self.now (rows_of self.now held) (option_map (λ x. x.now) text.entry) }
+    /// Refuses a coming row.
+    pub(crate) fn check(&self, text: Option<&str>) -> Result<(), Fault>
+        ensures { fault_of result ≡ rule_of self.now.memory (held_rows self.now) (option_map (λ x. x.now) text.entry) }
     {
-        if !self.has_room(held.rows) {
-            return Some(Fault::RowsFull { row: 0 });
+        if !self.has_room() {
+            return Err(Fault::RowsFull { row: 0 });
         }
         match text {
-            None => None,
-            Some(text) => self.text_fault(held, text.len()),
+            None => Ok(()),
+            Some(text) => self.check_text(text.len()),
         }
     }
 }

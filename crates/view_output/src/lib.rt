@@ -1,6 +1,4 @@
 //! View outputs: rows copied to lent memory as views, in the layout that view columns are read from.
 #![tactic(auto)]
 
-mod store;
-mod storing;
 pub mod view_output;

@@ -5,12 +5,13 @@ use lib.Seq.{paste}
 use Rattle.std.proofs.lemmas.Nat.{shr_split, mod_below, pow_pos}
 use Rattle.std.proofs.lemmas.List.FromFn.{length-map-range_with_len, get_or-map-range_with_len}
 use Rattle.std.proofs.lemmas.List.Edits.{length-paste}
-use Rattle.std.proofs.lemmas.List.{length-replicate, length_push, same_lists, length-take-le, get_or-take, get_or-replicate, length-set, get_or-set_same, get_or-set_other, get_or_append_left, get_or_past, get_or_push, places}
+use Rattle.std.proofs.lemmas.List.{length-replicate, length_push, same_lists, length-take-le, get_or-take, get_or-replicate, length-set, get_or-set_same, get_or-set_other, get_or_append_left, get_or_past, get_or_push}
 use Rattle.std.proofs.lemmas.Bool.{cases_lt, cases_eq}
 use Rattle.bitmap.specs.Validity.{bit}
 use Rattle.source.specs.Rows.{Row}
 use Rattle.writing.specs.Padding.{zeros}
 use Rattle.writing.specs.Bitmaps.{bit_of, packed, byte, bitmap_of, marked}
+use Rattle.writing.proofs.Wiping.{wiped_low, wiped_mid, wiped_high}
 
 -- bits
 module _ (f g : ℕ → ℕ) where
@@ -221,17 +222,6 @@ module _ (rows : List Row) (n : ℕ) (le : n ≤ length rows) where
       (λ k h8 kc. ap bit_of (getD_cut rows n le (8 * (n / 8) + k) (omega arith)))
       (λ k h8 ck. ap bit_of (getD_gone rows n le (8 * (n / 8) + k) (omega arith)))
 
--- what a wipe leaves
-module _ (xs : List ℕ) (from len k d : ℕ) (fits : from + len ≤ length xs) where
-  wiped_low : k < from → get_or (paste xs from (zeros len) len) k d ≡ get_or xs k d
-  wiped_low h = grind (arith, places)
-
-  wiped_mid : from ≤ k → k < from + len → get_or (paste xs from (zeros len) len) k d ≡ 0
-  wiped_mid h g = grind (arith, places)
-
-  wiped_high : from + len ≤ k → get_or (paste xs from (zeros len) len) k d ≡ get_or xs k d
-  wiped_high h = grind (arith, places)
-
 module _ (rows : List Row) (n m : ℕ) (em : length rows ≡ m) (lt : n < m) where
   pub bitmap_cut : (size : ℕ) → m ≤ 8 * size → paste (set (bitmap_of size rows) (n / 8) (get_or (bitmap_of size rows) (n / 8) 0 % 2 ^ (n % 8))) (n / 8 + 1) (zeros ((m - 1) / 8 + 1 - (n / 8 + 1))) ((m - 1) / 8 + 1 - (n / 8 + 1)) ≡ bitmap_of size (take n rows)
   bitmap_cut size h =
@@ -251,7 +241,7 @@ module _ (rows : List Row) (n m : ℕ) (em : length rows ≡ m) (lt : n < m) whe
       let new = bitmap_at size (take n rows) k d ks in
       ⊎_elim
       (λ low.
-      let w = wiped_low xs (n / 8 + 1) z k d fits low in
+      let w = wiped_low 0 xs (n / 8 + 1) z k d fits low in
       ⊎_elim
       (λ same.
       let here : get_or xs (n / 8) d ≡ v = get_or-set_same (bitmap_of size rows) (n / 8) v d (omega arith) in
@@ -266,9 +256,9 @@ module _ (rows : List Row) (n m : ℕ) (em : length rows ≡ m) (lt : n < m) whe
       (λ above.
       let is = byte_above rows n (omega arith) k (omega arith) in
       ⊎_elim
-      (λ mid. let w = wiped_mid xs (n / 8 + 1) z k d fits above (omega arith) in cc)
+      (λ mid. let w = wiped_mid 0 xs (n / 8 + 1) z k d fits above (omega arith) in cc)
       (λ high.
-      let w = wiped_high xs (n / 8 + 1) z k d fits (omega arith) in
+      let w = wiped_high 0 xs (n / 8 + 1) z k d fits (omega arith) in
       let there : get_or xs k d ≡ get_or (bitmap_of size rows) k d = get_or-set_other (bitmap_of size rows) (n / 8) k v d (omega arith) in
       let past = byte_past rows k (omega arith) in
       cc)

@@ -2,7 +2,7 @@
 use Rattle.std.proofs.Common.{◌≡◌, ℕ, suc, ◌+◌, ◌-◌, ◌<◌, ◌≤◌, List, [], ◌∷◌, ◌++◌, length, take, drop, set, sym, refl, ap, ◌∙◌, arith}
 use lib.Seq.{paste}
 use Rattle.std.proofs.lemmas.List.Edits.{paste_all}
-use Rattle.std.proofs.lemmas.List.{append-nil, append_assoc, length-append, length-replicate, take_at, drop_at, drop-drop, drop-replicate, drop_all, replicate-append-replicate, length-take-le, set_split, take-append-le}
+use Rattle.std.proofs.lemmas.List.{append_assoc, length-append, length-replicate, take_at, drop_at, drop-drop, drop-replicate, replicate-append-replicate, length-take-le, set_split, take-append-le}
 use Rattle.writing.specs.Padding.{zeros, padded}
 
 pub length_padded : (size : ℕ) (xs : List ℕ) → length xs ≤ size → length (padded size xs) ≡ size
@@ -60,12 +60,6 @@ padded_set size xs i v lo hi fits =
     let lv : length (take i xs ++ v ∷ []) ≡ length (take i xs) + 1 = length-append (take i xs) (v ∷ []) in
     let m : size - length xs - (suc i - length xs) ≡ size - length (take i xs ++ v ∷ []) = omega arith in
     s ∙ (ap (λ x. x ++ v ∷ drop (suc i) (xs ++ z)) t ∙ (ap (λ x. take i xs ++ v ∷ x) (d ∙ ap zeros m) ∙ sym (append_assoc (take i xs) (v ∷ []) (zeros (size - length (take i xs ++ v ∷ []))))))
-
--- zeros all over
-pub wiped_all : (xs : List ℕ) (n : ℕ) → length xs ≡ n → paste xs 0 (zeros (n - 0)) (n - 0) ≡ zeros n
-wiped_all xs n e =
-    let z : n - 0 ≡ n = omega arith in
-    ap (λ k. paste xs 0 (zeros k) k) z ∙ (paste_all xs 0 (zeros n) n (sym (length-replicate n 0)) ∙ (ap (λ t. zeros n ++ t) (drop_all _ xs (omega arith)) ∙ append-nil (zeros n)))
 
 -- zeros that are written
 pub padded_zeros : (size : ℕ) (xs : List ℕ) (k : ℕ) → length xs + k ≤ size → padded size (xs ++ zeros k) ≡ padded size xs

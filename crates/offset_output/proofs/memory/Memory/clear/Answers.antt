@@ -1,16 +1,10 @@
-use Rattle.std.proofs.Common.{map, length, refl, arith}
+use Rattle.std.proofs.Common.{◌-◌, map, length, pos, ap, ◌∙◌}
 use Rattle.std.proofs.lemmas.List.{length-map}
-use Rattle.offset_layout.proofs.Holding.{no_rows}
+use Rattle.writing.proofs.Wiping.{map_wiped, wiped_all}
 use Rattle.offset_output.proofs.memory.Memory.clear.Goals as goal
 
-pub returns : goal.returns
-returns g c =
-    let m = c.args.self.now in
-    let l = length-map m.offsets.now g.W.Width.number in
-    record {
-      sizes = (omega arith, omega arith, omega arith);
-      has = record {
-        holds = simp (c.wipe_offsets.ensures, c.wipe.ensures, c.wipe-2.ensures) (no_rows (map g.W.Width.number m.offsets.now) m.values.now m.validity.now (length m.offsets.now) (length m.values.now) (length m.validity.now) l refl refl);
-        nulls = refl;
-      };
-    }
+pub returns-clause-offsets : goal.returns-clause-offsets
+returns-clause-offsets g c =
+    let num = g.W.Width.number in
+    let os = c.args.self.now.offsets.now in
+    ap (map num) c.wipe.ensures ∙ (map_wiped num c.zero.result (pos 0) c.zero.ensures os 0 (length os - 0) ∙ wiped_all (pos 0) (map num os) (length os) (length-map os num))

@@ -1,11 +1,7 @@
-use Rattle.std.proofs.Common.{arith}
+use Rattle.std.proofs.Common.{rules}
 use Rattle.view_memory.proofs.Writes.{no_rows}
 use Rattle.view_memory.proofs.memory.Memory.clear.Goals as goal
 
-pub returns : goal.returns
-returns c =
-    let m = c.args.self.now in
-    record {
-      sizes = (omega arith, omega arith, omega arith, omega arith);
-      holds = no_rows m.views.now m.validity.now m.ends.now m.bytes.now _ _ _ _ c.wipe.ensures c.wipe-2.ensures c.wipe_ends.ensures c.wipe-3.ensures;
-    }
+pub returns-clause-holds : goal.returns-clause-holds
+returns-clause-holds c =
+    no_rows _ _ _ _ _ _ _ _ (c.fill.ensures.after (λ y h. search rules)) (c.fill-2.ensures.after (λ y h. search rules)) (c.fill-3.ensures.after (λ y h. search rules)) (c.fill-4.ensures.after (λ y h. search rules))

@@ -1,6 +1,0 @@
-use Rattle.columns.specs.Reading.{itself}
-use Rattle.offset_output.proofs.Stored.{memory_held}
-use Rattle.offset_output.proofs.offset_output_32.OffsetOutput32.image.Goals as goal
-
-pub returns : goal.returns
-returns c = let s = c.args.self.now in memory_held itself s.store s.sound s.ordered s.counted

@@ -1,0 +1,15 @@
+//! Memory with rows in it.
+ghost use Rattle.offset_output.specs.Memories.{Has, Keeps};
+
+use crate::memory::Memory;
+use crate::width::OffsetWidth;
+use output::Counts;
+
+/// Lent memory that holds rows and nothing else: what the kept ones take, which come first, and what all take.
+pub struct Filled<'a, W: OffsetWidth> {
+    pub(crate) memory: Memory<'a, W>,
+    pub(crate) kept: Counts,
+    pub(crate) held: Counts,
+    ghost has: { Has W.Width.number memory held },
+    ghost keeps: { Keeps W.Width.number memory kept held },
+}

@@ -1,0 +1,28 @@
+use Rattle.std.proofs.Common.{None, [], ◌∷◌, ◌++◌, arith}
+use Rattle.view_memory.specs.Fillings.{held_rows}
+use Rattle.view_memory.proofs.Counting.{count_null, nulls_most}
+use Rattle.view_memory.proofs.Keeping.{counted, has, more_keeps, rows_again}
+use Rattle.view_memory.proofs.Writes.{push_null}
+use Rattle.view_memory.proofs.filled.Filled.put_null.Goals as goal
+
+pub write_null-self-requires-clause-nulls : goal.write_null-self-requires-clause-nulls
+write_null-self-requires-clause-nulls c =
+    let s = c.args.self.now in
+    let n = nulls_most (held_rows s) in
+    let a = s.counted.0 in
+    let b = s.counted.1 in
+    omega arith
+
+pub invariant_of-self : goal.invariant_of-self
+invariant_of-self c =
+    let s = c.args.self.now in
+    let m = s.memory in
+    let rows = held_rows s ++ None ∷ [] in
+    let h = push_null s.has s.held.rows s.counted.0 c.requires in
+    let k = count_null s.held (held_rows s) s.counted in
+    rw c.write_null-self.ensures (record { has = has m _ rows h k; counted = counted m _ rows h k; keeps = more_keeps m m s.kept s.held s.counted s.keeps _ None (rows_again m _ rows h k) k })
+
+pub returns-clause-rows : goal.returns-clause-rows
+returns-clause-rows c =
+    let s = c.args.self.now in
+    rw c.write_null-self.ensures (rows_again s.memory _ (held_rows s ++ None ∷ []) (push_null s.has s.held.rows s.counted.0 c.requires) (count_null s.held (held_rows s) s.counted))

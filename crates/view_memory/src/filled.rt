@@ -1,0 +1,15 @@
+//! Memory with rows in it.
+ghost use Rattle.view_memory.specs.Memories.{Counted, Has, Keeps, rows_of};
+
+use crate::memory::Memory;
+use output::Counts;
+
+/// Lent memory that holds rows and nothing else: what the kept ones take, which come first, and what all take.
+pub struct Filled<'a> {
+    pub(crate) memory: Memory<'a>,
+    pub(crate) kept: Counts,
+    pub(crate) held: Counts,
+    ghost has: { Has memory (rows_of memory held) },
+    ghost counted: { Counted held (rows_of memory held) },
+    ghost keeps: { Keeps memory kept held },
+}
