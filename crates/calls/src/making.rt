@@ -28,6 +28,7 @@ fn fill<'t, C: Call<'t>, O: Output>(call: &C, rows: usize, out: &mut O) -> Resul
     ensures pieces { ended result (O.kept out.old ++ O.pending out.new) ≡ fed (on_rows (O.terms out.old).rule) (O.kept out.old ++ O.pending out.old) 0 (asked_by (O.terms out.old).taken (C.request call.now)).offers }
     ensures rows { Over (O.terms out.old).base (C.request call.now).drawn → ended result (map row_of (O.kept out.old ++ O.pending out.new)) ≡ fed (O.terms out.old).rule (map row_of (O.kept out.old ++ O.pending out.old)) 0 (asked_rows (C.request call.now)).offers }
 {
+    // By number, as a call is asked for its rows, and as faults go by.
     for row in 0..rows {
         let piece = at_row(call.row(row), row)?;
         at_row(out.add(piece), row)?;

@@ -5,6 +5,7 @@ use crate::memory::Memory;
 use crate::width::OffsetWidth;
 use output::Counts;
 
+// Beside the one of views: what has to hold is said in the words of each layout.
 /// Lent memory that holds rows and nothing else: what the kept ones take, which come first, and what all take.
 pub struct Filled<'a, W: OffsetWidth> {
     pub(crate) memory: Memory<'a, W>,

@@ -47,6 +47,7 @@ pub fn run<'t, L: CallList<'t>, O: Output>(
     let mut told = Vec::with_capacity(heap, calls.len())?;
     let slip = out.open();
     out.discard(slip);
+    // By number, as a list of calls is asked: an iterator of calls would say by what it yields, and not by one list, what they ask.
     for number in 0..calls.len() {
         let _ = told.push(make_number(calls, number, out));
     }

@@ -26,6 +26,7 @@ fn total_is(windows: &[usize], rows: usize) -> bool
     sum == rows
 }
 
+// A flag beside the rows, and neither an Option nor a Result: the rows are told also where not all windows were accepted.
 /// What the calls on windows were told: whether all were accepted, and the rows added together.
 #[derive(Clone, Copy, PartialEq, Eq, Debug)]
 pub struct Told {

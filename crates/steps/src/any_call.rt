@@ -13,6 +13,7 @@ use search::finder::Finder;
 use source::{Positions, Source};
 use trim::trimmer::{TrimBoth, TrimLeft, TrimRight};
 
+// An enum, with an arm for each kind in every function: a list hands its calls out, and a `dyn` value may not be handed out.
 /// One of the kinds of calls.
 #[derive(Drop)]
 pub enum AnyCall<'a, S, D, P> {

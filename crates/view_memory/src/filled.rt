@@ -4,6 +4,7 @@ ghost use Rattle.view_memory.specs.Memories.{Counted, Has, Keeps, rows_of};
 use crate::memory::Memory;
 use output::Counts;
 
+// Beside the one of offsets: what has to hold is said in the words of each layout.
 /// Lent memory that holds rows and nothing else: what the kept ones take, which come first, and what all take.
 pub struct Filled<'a> {
     pub(crate) memory: Memory<'a>,
