@@ -1,5 +1,5 @@
 //! Batches that are kept and discarded.
-use crate::rows::{null, text, told};
+use crate::rows::{null, refused, text};
 use output::Output;
 use std::test::Fail;
 use text::open_text;
@@ -7,18 +7,18 @@ use view_memory::memory::Memory;
 use view_output::view_output::ViewOutput;
 
 /// Keeps one long row, then adds five, the third of them in vain, and discards those.
-fn discarded(out: &mut ViewOutput<'_>, long: &str) -> (u8, u8, u8, u8, u8) {
+fn discarded(out: &mut ViewOutput<'_>, long: &str) -> [Option<u8>; 5] {
     let slip = out.open();
-    let _ = told(out.add(text("abcdefghijklm")));
+    let _ = refused(out.add(text("abcdefghijklm")));
     out.keep(slip);
     let slip = out.open();
-    let first = told(out.add(text("nopqrstuvwxyz")));
-    let second = told(out.add(null()));
-    let third = told(out.add(text(long)));
-    let fourth = told(out.add(text("short")));
-    let fifth = told(out.add(text("nopqrstuvwxyz!")));
+    let first = refused(out.add(text("nopqrstuvwxyz")));
+    let second = refused(out.add(null()));
+    let third = refused(out.add(text(long)));
+    let fourth = refused(out.add(text("short")));
+    let fifth = refused(out.add(text("nopqrstuvwxyz!")));
     out.discard(slip);
-    (first, second, third, fourth, fifth)
+    [first, second, third, fourth, fifth]
 }
 
 #[test]
@@ -45,7 +45,7 @@ fn discarded_rows_leave_nothing_behind(rt: HostRuntime) -> Result<(), Fail> {
         bytes,
     } = memory;
     assert!(rt;
-        answers == (0, 0, 12, 0, 0),
+        answers == [None, None, Some(12), None, None],
         "after an add that was refused the next go on"
     );
     assert!(rt; rows == 1 && counts.rows == 1 && counts.nulls == 0);

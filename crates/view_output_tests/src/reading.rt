@@ -1,7 +1,8 @@
 //! A finished output, opened again as a column.
-use crate::rows::{null, text, told};
+use crate::rows::{null, text};
 use output::{Counts, Output};
 use source::Source;
+use std::test::Fail;
 use view_memory::memory::Memory;
 use view_output::view_output::ViewOutput;
 use views::lent::{Buffers, Lent};
@@ -11,17 +12,17 @@ use views::view_column::ViewColumn;
 fn finished<'a>(memory: Memory<'a>) -> (Counts, Memory<'a>) {
     let mut out = ViewOutput::new(memory);
     let slip = out.open();
-    let _ = told(out.add(text("hi")));
-    let _ = told(out.add(null()));
-    let _ = told(out.add(text("abcdefghijklmn")));
-    let _ = told(out.add(text("abcdefghijké")));
+    let _ = out.add(text("hi"));
+    let _ = out.add(null());
+    let _ = out.add(text("abcdefghijklmn"));
+    let _ = out.add(text("abcdefghijké"));
     out.keep(slip);
-    let _ = told(out.add(text("nopqrstuvwxyz")));
+    let _ = out.add(text("nopqrstuvwxyz"));
     out.finish()
 }
 
 #[test]
-fn rows_are_read_again(rt: HostRuntime) {
+fn rows_are_read_again(rt: HostRuntime) -> Result<(), Fail> {
     let mut views = [9; 90];
     let mut validity = [255];
     let mut ends = [9; 3];
@@ -42,7 +43,6 @@ fn rows_are_read_again(rt: HostRuntime) {
     assert!(rt; counts.buffers == 1 && counts.long_views == 2);
     let ends: &[u64] = ends;
     assert!(rt; ends == [27, 0, 0].as_slice());
-    let mut column = ViewColumn::empty();
     let lent = Lent {
         views,
         buffers: Buffers {
@@ -51,11 +51,12 @@ fn rows_are_read_again(rt: HostRuntime) {
         },
         validity: Some(validity),
     };
-    assert!(rt; column.open(counts.rows, lent).is_ok());
+    let column = ViewColumn::open(counts.rows, lent)?;
     assert!(rt; column.text(0) == Some("hi"));
     assert!(rt; column.text(1) == None);
     assert!(rt; column.text(2) == Some("abcdefghijklmn"));
     assert!(rt; column.text(3) == Some("abcdefghijké"));
     assert!(rt; column.place(3) == Some((0, 14)));
     assert!(rt; column.text(4) == None);
+    Ok(())
 }

@@ -20,26 +20,17 @@ pub fn null() -> Piece<'static> {
     }
 }
 
-/// The fault's number; 0 where there is none.
-pub fn told(added: Result<(), Fault>) -> u8 {
-    match added {
-        Ok(()) => 0,
-        Err(fault) => fault.number(),
-    }
+/// The number of the fault, where a row was refused.
+pub fn refused(added: Result<(), Fault>) -> Option<u8> {
+    added.err().map(|fault| fault.number())
 }
 
 /// Adds the texts, up to one that is refused: the number of its fault.
-fn add_all(out: &mut ViewOutput<'_>, texts: &[&str]) -> u8 {
+fn add_all(out: &mut ViewOutput<'_>, texts: &[&str]) -> Option<u8> {
     let slip = out.open();
-    let mut number = 0;
-    for t in texts {
-        number = told(out.add(text(t)));
-        if number != 0 {
-            break;
-        }
-    }
+    let added = texts.iter().try_for_each(|t| out.add(text(t)));
     out.keep(slip);
-    number
+    refused(added)
 }
 
 /// The fault's number, and the counts of the texts before it.
@@ -49,7 +40,7 @@ pub fn written(
     ends: &mut [u64],
     bytes: &mut [u8],
     texts: &[&str],
-) -> (u8, Counts) {
+) -> (Option<u8>, Counts) {
     let mut out = ViewOutput::new(Memory {
         views,
         validity,
