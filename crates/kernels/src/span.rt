@@ -22,7 +22,9 @@ impl<'a, S> Span<'a, S> {
     pub fn is_within(&self, all: usize) -> bool
         ensures { result ≡ nat_le (self.now.first + self.now.rows) all }
     {
-        self.first <= all && self.rows <= all - self.first
+        self.first
+            .checked_add(self.rows)
+            .is_some_and(|end| end <= all)
     }
 
     /// Refused where the rows are not among so many.
@@ -39,7 +41,7 @@ impl<'a, S> Span<'a, S> {
     pub fn ends(&self) -> bool
         ensures { result ≡ ends self.now.first self.now.rows }
     {
-        self.rows <= usize::MAX - self.first
+        self.first.checked_add(self.rows).is_some()
     }
 
     /// So many rows from the row `at` on. No sum may wrap.
@@ -60,21 +62,20 @@ impl<'a, S> Span<'a, S> {
         ensures text { option_map (λ x. x.now) result ≡ row_in self.now.first (S.Source.listed self.now.source.now) row }
         ensures within { is_some result ≡ true → self.now.first + row < 2 ^ 64 }
     {
-        let all = self.source.rows();
-        if self.first >= all || row >= all - self.first {
+        if row >= self.source.rows().saturating_sub(self.first) {
             return None;
         }
         self.source.text(self.first + row)
     }
 
+    // Beside `text`: no bound says that a type is a source or positions.
     /// The position at a row; nothing where it is null or past the end.
     pub fn position(&self, row: usize) -> Option<i64>
     where
         S: Positions,
         ensures { result ≡ row_in self.now.first (S.Positions.numbered self.now.source.now) row }
     {
-        let all = self.source.rows();
-        if self.first >= all || row >= all - self.first {
+        if row >= self.source.rows().saturating_sub(self.first) {
             return None;
         }
         self.source.position(self.first + row)
