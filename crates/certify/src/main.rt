@@ -116,6 +116,7 @@ fn refused(rt: &HostRuntime, unheld: Unheld) -> anyhow::Result<ExitCode> {
 
 fn lay_out(rt: &HostRuntime, layout: Layout, upload: &[u8]) -> anyhow::Result<ExitCode> {
     let lines = Values::new(rt.alloc(), upload)?;
+    // An arm for each: a trait cannot name the column that borrows its lists (tried: its associated type takes no lifetime).
     match layout {
         Layout::Offset => match OffsetLists::hold(rt.alloc(), lines) {
             Ok(lists) => certify_opened(rt, lists.open()),
@@ -141,6 +142,7 @@ fn certify_opened<'a, S: Source<'a> + Drop>(
 /// Tells of every row of a column, and then the counts.
 fn certify<'a, S: Source<'a>>(rt: &HostRuntime, column: &S) -> anyhow::Result<ExitCode> {
     let mut tally = Tally::new();
+    // By numbers, which rows and lines go by.
     for row in 0..column.rows() {
         let outcome = certify_row(rt, row, column.text(row))?;
         tally.count(outcome)?;

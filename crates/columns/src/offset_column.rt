@@ -21,6 +21,7 @@ pub struct OffsetColumn<'a, W: Width> {
 
 impl<'a, W: Width> Copy for OffsetColumn<'a, W> {}
 
+// By hand: a derive refuses a generic struct with a ghost field (tried).
 impl<'a, W: Width> Clone for OffsetColumn<'a, W> {
     ghost is_clone = { λ it copy. copy ≡ it };
 

@@ -59,6 +59,7 @@ impl<'a, W: Width> Lent<'a, W> {
         requires { enough rows (lists W.number self.now) ≡ true }
         ensures { fault_of result ≡ first_fault (row_fault (lists W.number self.now)) rows }
     {
+        // By numbers, which rows and faults go by; a chain with a closure is no plainer.
         for row in 0..rows {
             self.check_row(row)?;
         }

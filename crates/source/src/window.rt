@@ -38,6 +38,7 @@ impl<'w, S> Window<'w, S> {
     }
 
     /// The same of positions.
+    // Beside `new`: no bound says that a type is a source or positions.
     pub fn of_positions(positions: &'w S, first: usize, rows: usize) -> Result<Window<'w, S>, Fault>
     where
         S: Positions,

@@ -40,6 +40,7 @@ impl<'a> Buffers<'a> {
         ensures answer { fault_of result ≡ ends_fault (held self.entry) }
         ensures buffers { IfOk result (λ c. c.buffers ≡ self.entry) }
     {
+        // By numbers, which buffers go by; a chain with a closure is no plainer.
         for buffer in 0..self.ends.len() {
             if !self.end_holds(buffer) {
                 return Err(Fault::BufferEnd);

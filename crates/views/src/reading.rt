@@ -38,6 +38,7 @@ impl<'a> Lent<'a> {
             return Err(Fault::ShortList);
         }
         let buffers = self.buffers.check()?;
+        // By numbers, which rows and faults go by; a chain with a closure is no plainer.
         for row in 0..rows {
             if is_valid(self.validity, row) {
                 buffers.check(row, self.view(row))?;
