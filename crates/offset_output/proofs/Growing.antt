@@ -8,7 +8,7 @@ use Rattle.offset_layout.proofs.Reading.{rows_are}
 use Rattle.offset_layout.proofs.Values.{used_push}
 use Rattle.output.specs.declared.Counts.{Counts}
 use Rattle.source.specs.Rows.{Row}
-use Rattle.offset_output.proofs.Nulls.{null_more, text_more}
+use Rattle.copying.proofs.Nulls.{null_more, text_more}
 use Rattle.offset_output.specs.Memories.{Has, Keeps, capacity_of, counted, rows_of}
 use Rattle.text.specs.Steps.{formed}
 use Rattle.writing.specs.Bitmaps.{marked}

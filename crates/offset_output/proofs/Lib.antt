@@ -1,3 +1,2 @@
-pub mod Nulls
 pub mod Cleared
 pub mod Growing

@@ -2,24 +2,14 @@
 use Rattle.std.proofs.Common.{◌≡◌, ℕ, ◌+◌, ◌<◌, ◌≤◌, cond, leb, List, [], ◌∷◌, ◌++◌, length, Some, None, sym, refl, ap, ◌∙◌, arith}
 use Rattle.std.proofs.lemmas.List.{length_push}
 use Rattle.std.proofs.lemmas.Bool.{le-leb, lt-leb, cond-true, cond-false, cond_both}
+use Rattle.copying.proofs.Nulls.{null_more, text_more}
 use Rattle.output.specs.declared.Counts.{Counts}
-use Rattle.output.specs.Rows.{nulls_in}
 use Rattle.source.specs.Rows.{Row}
 use Rattle.views.specs.Layout.{Data}
 use Rattle.view_memory.specs.Layout.{buffers_of, buffer_for, with_text}
 use Rattle.view_memory.specs.Memories.{Counted, longs_in}
 use Rattle.view_memory.proofs.Growing.{length_ends, length_bytes}
 use Rattle.view_memory.proofs.Laying.{buffers_push, row_null, row_short, row_long, rows_ordered}
-
-nulls_null : (rows : List Row) → nulls_in (rows ++ None ∷ []) ≡ nulls_in rows + 1
-nulls_null [] = refl
-nulls_null (None ∷ rows) = ap (λ n. n + 1) (nulls_null rows)
-nulls_null (Some t ∷ rows) = nulls_null rows
-
-nulls_text : (rows : List Row) (t : List ℕ) → nulls_in (rows ++ Some t ∷ []) ≡ nulls_in rows
-nulls_text [] t = refl
-nulls_text (None ∷ rows) t = ap (λ n. n + 1) (nulls_text rows t)
-nulls_text (Some u ∷ rows) t = nulls_text rows t
 
 longs_null : (rows : List Row) → longs_in (rows ++ None ∷ []) ≡ longs_in rows
 longs_null [] = refl
@@ -30,11 +20,6 @@ longs_text : (rows : List Row) (t : List ℕ) → longs_in (rows ++ Some t ∷ [
 longs_text [] t = refl
 longs_text (None ∷ rows) t = longs_text rows t
 longs_text (Some u ∷ rows) t = let e = longs_text rows t in omega arith
-
-pub nulls_most : (rows : List Row) → nulls_in rows ≤ length rows
-nulls_most [] = omega arith
-nulls_most (None ∷ rows) = let h = nulls_most rows in omega arith
-nulls_most (Some t ∷ rows) = let h = nulls_most rows in omega arith
 
 pub longs_most : (rows : List Row) → longs_in rows ≤ length rows
 longs_most [] = omega arith
@@ -49,7 +34,7 @@ module _ (held : Counts) (rows : List Row) (h : Counted held rows) where
   count_null =
       let d : buffers_of (rows ++ None ∷ []) ≡ buffers_of rows = buffers_push rows None ∙ row_null (buffers_of rows) in (
         ap (λ n. n + 1) h.0 ∙ sym (length_push rows None),
-        ap (λ n. n + 1) h.1 ∙ sym (nulls_null rows),
+        ap (λ n. n + 1) h.1 ∙ sym (null_more rows),
         h.2 ∙ ap (λ x. length x.bytes) (sym d),
         h.3 ∙ ap (λ x. length x.ends) (sym d),
         h.4 ∙ sym (longs_null rows),
@@ -63,7 +48,7 @@ module _ (held : Counts) (rows : List Row) (h : Counted held rows) where
         let c : cond (leb (length t) 12) 0 1 ≡ 0 = cond-true (leb (length t) 12) 0 1 (le-leb (length t) 12 short) in
         let z : longs_in rows ≡ longs_in rows + 0 = omega arith in (
           ap (λ n. n + 1) h.0 ∙ sym (length_push rows (Some t)),
-          h.1 ∙ sym (nulls_text rows t),
+          h.1 ∙ sym (text_more rows t),
           h.2 ∙ ap (λ x. length x.bytes) (sym d),
           h.3 ∙ ap (λ x. length x.ends) (sym d),
           h.4 ∙ (z ∙ (ap (λ n. longs_in rows + n) (sym c) ∙ sym l)),
@@ -76,7 +61,7 @@ module _ (held : Counts) (rows : List Row) (h : Counted held rows) where
         let l = longs_text rows t in
         let c : cond (leb (length t) 12) 0 1 ≡ 1 = cond-false (leb (length t) 12) 0 1 (lt-leb (length t) 12 big) in (
           ap (λ n. n + 1) h.0 ∙ sym (length_push rows (Some t)),
-          h.1 ∙ sym (nulls_text rows t),
+          h.1 ∙ sym (text_more rows t),
           ee ∙ (ap (λ n. n + length t) h.2 ∙ (sym (length_bytes d (rows_ordered rows) t) ∙ ap (λ x. length x.bytes) (sym q))),
           ap (λ n. n + 1) eb ∙ (sym (length_ends d (rows_ordered rows) t) ∙ ap (λ x. length x.ends) (sym q)),
           ap (λ n. n + 1) h.4 ∙ (ap (λ n. longs_in rows + n) (sym c) ∙ sym l),

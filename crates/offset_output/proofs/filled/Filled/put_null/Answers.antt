@@ -1,7 +1,7 @@
 use Rattle.std.proofs.Common.{◌≤◌, None, refl, ap, arith, rules}
 use Rattle.offset_layout.proofs.Reading.{rows_are}
 use Rattle.offset_output.proofs.Growing.{has, more_keeps, null_counted, null_put}
-use Rattle.offset_output.proofs.Nulls.{nulls_below}
+use Rattle.copying.proofs.Nulls.{nulls_below}
 use Rattle.offset_output.specs.Fillings.{held_rows}
 use Rattle.offset_output.proofs.filled.Filled.put_null.Goals as goal
 

@@ -1,6 +1,7 @@
 use Rattle.std.proofs.Common.{None, [], ◌∷◌, ◌++◌, arith}
+use Rattle.copying.proofs.Nulls.{nulls_below}
 use Rattle.view_memory.specs.Fillings.{held_rows}
-use Rattle.view_memory.proofs.Counting.{count_null, nulls_most}
+use Rattle.view_memory.proofs.Counting.{count_null}
 use Rattle.view_memory.proofs.Keeping.{counted, has, more_keeps, rows_again}
 use Rattle.view_memory.proofs.Writes.{push_null}
 use Rattle.view_memory.proofs.filled.Filled.put_null.Goals as goal
@@ -8,7 +9,7 @@ use Rattle.view_memory.proofs.filled.Filled.put_null.Goals as goal
 pub write_null-self-requires-clause-nulls : goal.write_null-self-requires-clause-nulls
 write_null-self-requires-clause-nulls c =
     let s = c.args.self.now in
-    let n = nulls_most (held_rows s) in
+    let n = nulls_below (held_rows s) in
     let a = s.counted.0 in
     let b = s.counted.1 in
     omega arith

@@ -1,7 +1,0 @@
-use Rattle.std.proofs.Common.{length, refl, arith}
-use Rattle.std.proofs.lemmas.Slice.{put_mid-paste}
-use Rattle.writing.proofs.bytes.put_text.Goals as goal
-
-pub returns : goal.returns
-returns c =
-    put_mid-paste _ _ c.args.bytes.now c.copy_from_slice.new.self c.args.text.now (length c.args.text.now) c.copy_from_slice.ensures.after (omega arith) refl
