@@ -2,7 +2,7 @@
 ghost use Rattle.std.specs.Prelude.{◌≡◌, [], ◌++◌, map, length, replicate, None, refl};
 ghost use Rattle.std.proofs.Common.{ap, sym, ◌∙◌};
 ghost use Rattle.copying.specs.Pieces.{kept_pieces, pending_pieces};
-ghost use Rattle.copying.specs.Held.{held_same};
+ghost use Rattle.copying.specs.laws.Held.{held_same};
 ghost use Rattle.output.specs.Rows.{copied, nulls_in, row_of};
 
 use crate::storage::Storage;
@@ -31,7 +31,7 @@ impl<S: Storage> CopyingOutput<S> {
     }
 
     /// A fact for proofs, what all memory holds after every call: the rows held, and else zeros; it does nothing.
-    #[tactic(auto, using(crate::specs::Held::rows_parts))]
+    #[tactic(auto, using(crate::specs::laws::Held::rows_parts))]
     pub fn image(&self)
         ensures { S.all (S.memory self.now.store) ≡ S.image (S.sizes (S.memory self.now.store)) (map row_of (kept_pieces (S.kept self.now.store) (S.rows self.now.store) ++ pending_pieces (S.kept self.now.store) (S.rows self.now.store))) }
     {}
@@ -56,12 +56,12 @@ impl<S: Storage> Output for CopyingOutput<S> {
         self.store.rows()
     }
 
-    #[tactic(auto, using(crate::specs::Held::rows_parts))]
+    #[tactic(auto, using(crate::specs::laws::Held::rows_parts))]
     fn add(&mut self, piece: Piece<'_>) -> Result<(), Fault> {
         self.store.add(piece.text)
     }
 
-    #[tactic(auto, using(crate::specs::Held::all_kept))]
+    #[tactic(auto, using(crate::specs::laws::Held::all_kept))]
     fn keep_pending(&mut self) {
         self.store.keep();
     }
@@ -70,7 +70,7 @@ impl<S: Storage> Output for CopyingOutput<S> {
         self.store.cut();
     }
 
-    #[tactic(auto, using(crate::specs::Held::rows_whole))]
+    #[tactic(auto, using(crate::specs::laws::Held::rows_whole))]
     fn finish(self) -> (Counts, S::Memory)
         ensures reading { S.reading result.1 result.0 ≡ map row_of (kept_pieces (S.kept self.store) (S.rows self.store)) }
         ensures rows { result.0.rows ≡ length (kept_pieces (S.kept self.store) (S.rows self.store)) }

@@ -1,3 +1,4 @@
 pub mod Widths
 pub mod Memories
 pub mod Fillings
+pub mod laws

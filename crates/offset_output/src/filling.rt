@@ -1,7 +1,8 @@
 //! Rows put into memory, and taken out of it again.
 ghost use Rattle.std.specs.Prelude.{◌≡◌, ◌+◌, ◌<◌, ◌≤◌, [], ◌∷◌, ◌++◌, length, pos, Some, None, nat_lt, refl};
 ghost use Rattle.columns.specs.Offsets.{rows_in, verdict};
-ghost use Rattle.offset_output.specs.Fillings.{faults, held_rows, kept_within, shown};
+ghost use Rattle.offset_output.specs.Fillings.{held_rows};
+ghost use Rattle.offset_output.specs.laws.Filled.{faults, kept_within, shown};
 ghost use Rattle.offset_output.specs.Memories.{SameSizes, capacity_of, counted, image, lists_of, memory_of, rule_of, sizes_of};
 
 use crate::filled::Filled;

@@ -22,11 +22,3 @@ one_is_ascii bs l u = go u.0 u.1.1
           let f : len_utf8 c + length (encodes cs) ≡ 1 = sym (ap (λ n. n + length (encodes cs)) (length-encode c)) ∙ (sym (length-append (encode c) (encodes cs)) ∙ (ap length e ∙ l)) in
           absurd (omega arith)
     ]
-
--- a delimiter that was taken for one byte is that byte
-pub one_byte_is : (x d : List ℕ) → Some x ≡ if_one_byte d → x ≡ d
-one_byte_is x d e = go (eqb (length d) 1) e
-  where
-    go : (b : Bool) → Some x ≡ cond b (Some d) None → x ≡ d
-    go true f = cc
-    go false f = cc

@@ -1,7 +1,8 @@
 //! The searcher that goes by the delimiter's length.
 ghost use Rattle.std.specs.Prelude.{◌≡◌};
-ghost use Rattle.search.specs.Sought.{byte_text, sought};
+ghost use Rattle.search.specs.Sought.{sought};
 ghost use Rattle.search.specs.declared.finder.Finder.TheVariants.{Byte, Text};
+ghost use Rattle.search.specs.laws.OneByte.{byte_text};
 ghost use Rattle.text.proofs.Cuts.{well_formed_had};
 
 use crate::Searcher;

@@ -28,7 +28,7 @@ impl OneByte {
 impl Searcher for OneByte {
     ghost delimiter = { λ s. s.byte ∷ [] };
 
-    ghost texts = { λ s. ((s.byte ∷ []) ∷ [], (let low = s.ascii in Prim.search rules, refl)) };
+    ghost texts = { λ s. byte_text s.byte s.ascii };
 
     fn len(&self) -> usize {
         1

@@ -3,4 +3,4 @@ pub mod Rule
 pub mod Holding
 pub mod Memories
 pub mod Fillings
-pub mod Judging
+pub mod laws

@@ -1,6 +1,7 @@
 //! Rows put into memory, and taken out of it again.
 ghost use Rattle.std.specs.Prelude.{◌≡◌, ◌<◌, ◌≤◌, [], ◌∷◌, ◌++◌, length, Some, None, refl};
-ghost use Rattle.view_memory.specs.Fillings.{faults, held_rows, kept_within, shown};
+ghost use Rattle.view_memory.specs.Fillings.{held_rows};
+ghost use Rattle.view_memory.specs.laws.Filled.{faults, kept_within, shown};
 ghost use Rattle.view_memory.specs.Layout.{buffers_of};
 ghost use Rattle.view_memory.specs.Memories.{SameSizes, column_of, counts_of, image, memory_of, rule_of, sizes_of};
 ghost use Rattle.view_memory.specs.Rule.{capacity, end_capacity, text_verdict};
