@@ -1,6 +1,5 @@
 -- A text of one byte is an ASCII character.
-use Rattle.std.proofs.Common.{◌≡◌, ℕ, ◌+◌, ◌<◌, ◌≤◌, Bool, true, false, cond, eqb, List, [], ◌∷◌, length, get_or, Some, None, IsUtf8, sym, ap, ◌∙◌, inl, inr, arith, length-append}
-use Rattle.search.specs.Places.{if_one_byte}
+use Rattle.std.proofs.Common.{◌≡◌, ℕ, ◌+◌, ◌<◌, ◌≤◌, List, [], ◌∷◌, length, get_or, IsUtf8, sym, ap, ◌∙◌, inl, inr, arith, length-append}
 use lib.Utf8.{encode, encodes}
 use Rattle.std.specs.Char.{len_utf8}
 use Rattle.std.proofs.lemmas.Bool.{cases_lt}

@@ -1,8 +1,8 @@
 //! The searcher for a delimiter of one byte: one pass over the text.
-ghost use Rattle.std.specs.Prelude.{◌≡◌, ◌<◌, [], ◌∷◌, refl};
-ghost use Rattle.std.proofs.Common.{rules};
+ghost use Rattle.std.specs.Prelude.{◌≡◌, ◌<◌, [], ◌∷◌};
 ghost use Rattle.std.specs.Option.{option_map};
 ghost use Rattle.search.specs.Places.{if_one_byte};
+ghost use Rattle.search.specs.laws.OneByte.{byte_text};
 
 use crate::Searcher;
 
