@@ -1,7 +1,7 @@
 -- Memory that holds rows: one row more, fewer rows, and what they take.
-use Rattle.std.proofs.Common.{◌≡◌, ℕ, ◌+◌, ◌<◌, ◌≤◌, true, List, [], ◌∷◌, ◌++◌, map, length, get_or, set, take, Some, None, ℤ, pos, sym, refl, ap, ◌∙◌, arith}
+use Rattle.std.proofs.Common.{◌≡◌, ℕ, ◌+◌, ◌<◌, ◌≤◌, true, List, [], ◌∷◌, ◌++◌, map, length, get_or, set, Some, None, ℤ, pos, sym, refl, ap, ◌∙◌, arith}
 use lib.Seq.{paste}
-use Rattle.std.proofs.lemmas.List.{length_push, length-map, map-set, get_or-map, take-append-le, take-take}
+use Rattle.std.proofs.lemmas.List.{length_push, length-map, map-set, get_or-map}
 use Rattle.offset_layout.specs.Layout.{capacity, used, Holds}
 use Rattle.offset_layout.proofs.Holding.{push_null_to, push_text_to, last_offset}
 use Rattle.offset_layout.proofs.Reading.{rows_are}
@@ -9,7 +9,7 @@ use Rattle.offset_layout.proofs.Values.{used_push}
 use Rattle.output.specs.declared.Counts.{Counts}
 use Rattle.source.specs.Rows.{Row}
 use Rattle.copying.proofs.Nulls.{null_more, text_more}
-use Rattle.offset_output.specs.Memories.{Has, Keeps, capacity_of, counted, rows_of}
+use Rattle.offset_output.specs.Memories.{Has, capacity_of, counted, rows_of}
 use Rattle.text.specs.Steps.{formed}
 use Rattle.writing.specs.Bitmaps.{marked}
 use Rattle.offset_output.specs.declared.memory.Memory.{Memory}
@@ -64,19 +64,3 @@ module _ {W : Type 0} (number : W → ℤ) (m : Memory W) (c : Counts) (h : Has 
       let l = length-map os number in
       let r : c.rows < capacity (length (map number os)) (length m.validity.now) = omega arith in
       push_text_to h.holds r t b e well fits _ _ _ (ap (map number) eo ∙ (map-set number os (c.rows + 1) end ∙ ap (set (map number os) (c.rows + 1)) en)) ev eb
-
--- the kept rows stay the first
-module _ {W : Type 0} (number : W → ℤ) (m k : Memory W) (kept held : Counts) (h : Has number m held) (s : Keeps number m kept held) where
-  pub more_keeps : (more : Counts) (row : Row) → more.rows ≡ held.rows + 1 → rows_of number k more.rows ≡ rows_of number m held.rows ++ row ∷ [] → Keeps number k kept more
-  more_keeps more row e r =
-      let R : List Row = rows_of number m held.rows in
-      let n = h.holds.count in
-      let f = s.first in
-      let t : take kept.rows (R ++ row ∷ []) ≡ take kept.rows R = take-append-le kept.rows R (row ∷ []) (omega arith) in
-      record { first = omega arith; counts = s.counts ∙ ap counted (sym (ap (take kept.rows) r ∙ t)) }
-
-  pub cut_keeps : rows_of number k kept.rows ≡ take kept.rows (rows_of number m held.rows) → Keeps number k kept kept
-  cut_keeps r =
-      let R : List Row = rows_of number m held.rows in
-      let t : take kept.rows (take kept.rows R) ≡ take kept.rows R = take-take kept.rows kept.rows R (omega arith) in
-      record { first = omega arith; counts = s.counts ∙ ap counted (sym (ap (take kept.rows) r ∙ t)) }

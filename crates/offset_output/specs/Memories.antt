@@ -1,5 +1,5 @@
 -- Lent memory, and the rows in it.
-use Rattle.std.specs.Prelude.{◌≡◌, ℕ, ◌*◌, ◌+◌, ◌≤◌, List, [], ◌∷◌, ◌++◌, map, length, take, ℤ, pos, negsuc}
+use Rattle.std.specs.Prelude.{◌≡◌, ℕ, ◌*◌, ◌+◌, List, [], ◌∷◌, ◌++◌, map, length, ℤ, pos, negsuc}
 use Rattle.columns.specs.Offsets.{Lists, rows_in}
 use Rattle.offset_layout.specs.Layout.{capacity, column, used, offsets_of, values_of, Holds}
 use Rattle.offset_layout.specs.Rules.{offset_rule}
@@ -25,11 +25,6 @@ counted rows = record { rows = length rows; nulls = nulls_in rows; value_bytes =
 pub record Has {W : Type 0} (number : W → ℤ) (m : Memory W) (c : Counts) : Type 0 where
   pub holds : Holds (map number m.offsets.now) m.values.now m.validity.now (rows_of number m c.rows) c.rows c.value_bytes
   pub counts : c ≡ counted (rows_of number m c.rows)
-
--- the first of the rows held are kept; they take so much
-pub record Keeps {W : Type 0} (number : W → ℤ) (m : Memory W) (kept held : Counts) : Type 0 where
-  pub first : kept.rows ≤ held.rows
-  pub counts : kept ≡ counted (take kept.rows (rows_of number m held.rows))
 
 abbrev pub SameSizes : {W : Type 0} → Memory W → Memory W → Type 0
 SameSizes m k =

@@ -1,5 +1,6 @@
 //! Memory with rows in it.
-ghost use Rattle.offset_output.specs.Memories.{Has, Keeps};
+ghost use Rattle.copying.specs.Keeping.{Keeps};
+ghost use Rattle.offset_output.specs.Memories.{Has, counted, rows_of};
 
 use crate::memory::Memory;
 use crate::width::OffsetWidth;
@@ -12,5 +13,5 @@ pub struct Filled<'a, W: OffsetWidth> {
     pub(crate) kept: Counts,
     pub(crate) held: Counts,
     ghost has: { Has W.Width.number memory held },
-    ghost keeps: { Keeps W.Width.number memory kept held },
+    ghost keeps: { Keeps counted (rows_of W.Width.number memory held.rows) kept },
 }

@@ -2,7 +2,7 @@
 ghost use Rattle.std.specs.Prelude.{◌≡◌, ◌+◌, ◌<◌, ◌≤◌, [], ◌∷◌, ◌++◌, length, pos, Some, None, nat_lt, refl};
 ghost use Rattle.columns.specs.Offsets.{rows_in, verdict};
 ghost use Rattle.offset_output.specs.Fillings.{held_rows};
-ghost use Rattle.offset_output.specs.laws.Filled.{faults, kept_within, shown};
+ghost use Rattle.offset_output.specs.laws.Filled.{faults, shown};
 ghost use Rattle.offset_output.specs.Memories.{SameSizes, capacity_of, counted, image, lists_of, memory_of, rule_of, sizes_of};
 
 use crate::filled::Filled;
@@ -125,7 +125,7 @@ impl<'a, W: OffsetWidth> Storage for Filled<'a, W> {
         (held, memory)
     }
 
-    ghost within = { λ s. kept_within W.Width.number s.memory s.kept s.held s.has s.keeps };
+    ghost within = { λ s. s.keeps.first };
 
     ghost imaged = { λ s. shown W.Width.number s.memory s.held s.has };
 

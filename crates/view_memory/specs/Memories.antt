@@ -1,5 +1,5 @@
 -- The memory of a view output, by the rows in it.
-use Rattle.std.specs.Prelude.{◌≡◌, ℕ, ◌+◌, ◌≤◌, cond, List, [], ◌∷◌, ◌++◌, length, take, Some, None, nat_le}
+use Rattle.std.specs.Prelude.{◌≡◌, ℕ, ◌+◌, cond, List, [], ◌∷◌, ◌++◌, length, Some, None, nat_le}
 use Rattle.output.specs.declared.Counts.{Counts}
 use Rattle.output.specs.Rows.{Rule, nulls_in}
 use Rattle.source.specs.Rows.{Row}
@@ -44,11 +44,6 @@ Counted c rows =
     × (c.value_bytes ≡ length (buffers_of rows).bytes)
     × (c.buffers ≡ length (buffers_of rows).ends)
     × (c.long_views ≡ longs_in rows)
-
--- the first of the rows held are kept; they take so much
-pub record Keeps (m : Memory) (kept held : Counts) : Type 0 where
-  pub first : kept.rows ≤ held.rows
-  pub counts : Counted kept (take kept.rows (rows_of m held))
 
 -- the rule, by the sizes of the memory
 abbrev pub rule_of : Memory → Rule

@@ -1,5 +1,6 @@
 //! Memory with rows in it.
-ghost use Rattle.view_memory.specs.Memories.{Counted, Has, Keeps, rows_of};
+ghost use Rattle.copying.specs.Keeping.{Keeps};
+ghost use Rattle.view_memory.specs.Memories.{Counted, Has, counts_of, rows_of};
 
 use crate::memory::Memory;
 use output::Counts;
@@ -12,5 +13,5 @@ pub struct Filled<'a> {
     pub(crate) held: Counts,
     ghost has: { Has memory (rows_of memory held) },
     ghost counted: { Counted held (rows_of memory held) },
-    ghost keeps: { Keeps memory kept held },
+    ghost keeps: { Keeps counts_of (rows_of memory held) kept },
 }

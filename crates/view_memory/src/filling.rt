@@ -1,7 +1,7 @@
 //! Rows put into memory, and taken out of it again.
 ghost use Rattle.std.specs.Prelude.{◌≡◌, ◌<◌, ◌≤◌, [], ◌∷◌, ◌++◌, length, Some, None, refl};
 ghost use Rattle.view_memory.specs.Fillings.{held_rows};
-ghost use Rattle.view_memory.specs.laws.Filled.{faults, kept_within, shown};
+ghost use Rattle.view_memory.specs.laws.Filled.{faults, shown};
 ghost use Rattle.view_memory.specs.Layout.{buffers_of};
 ghost use Rattle.view_memory.specs.Memories.{SameSizes, column_of, counts_of, image, memory_of, rule_of, sizes_of};
 ghost use Rattle.view_memory.specs.Rule.{capacity, end_capacity, text_verdict};
@@ -126,7 +126,7 @@ impl<'a> Storage for Filled<'a> {
         (held, memory)
     }
 
-    ghost within = { λ s. kept_within s.memory s.kept s.held s.counted s.keeps };
+    ghost within = { λ s. s.keeps.first };
 
     ghost imaged = { λ s. shown s.memory (held_rows s) s.has };
 

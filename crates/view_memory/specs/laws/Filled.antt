@@ -1,4 +1,4 @@
--- What is known of memory with rows in it: all of it by the rows, how many are kept, and what the rule refuses a row for.
+-- What is known of memory with rows in it: all of it by the rows, and what the rule refuses a row for.
 use Rattle.std.specs.Prelude.{◌≡◌, ℕ, ◌≤◌, List, length}
 use Rattle.std.proofs.Common.{ap, ◌∙◌, arith}
 use Rattle.output.specs.Rows.{OwnFault}
@@ -6,13 +6,10 @@ use Rattle.output.specs.declared.Counts.{Counts}
 use Rattle.source.specs.Rows.{Row}
 use Rattle.view_memory.specs.laws.Judging.{own_faults}
 use Rattle.view_memory.specs.Layout.{ends_of, views_of}
-use Rattle.view_memory.specs.Memories.{Counted, Has, Keeps, image, laid, memory_of, rows_of, rule_of, sizes_of}
+use Rattle.view_memory.specs.Memories.{Has, image, laid, memory_of, rows_of, rule_of, sizes_of}
 use Rattle.view_memory.specs.Rule.{capacity, end_capacity}
 use Rattle.view_memory.specs.declared.memory.Memory.{Memory}
 use Rattle.writing.specs.Bitmaps.{bitmap_of}
-
-pub kept_within : (m : Memory) (kept held : Counts) → Counted held (rows_of m held) → Keeps m kept held → kept.rows ≤ length (rows_of m held)
-kept_within m kept held c k = let n = c.0 in let f = k.first in omega arith
 
 pub shown : (m : Memory) (rows : List Row) → Has m rows → memory_of m ≡ image (sizes_of m) rows
 shown m rows h =

@@ -1,6 +1,9 @@
-use Rattle.std.proofs.Common.{◌≤◌, None, refl, ap, arith, rules}
+use Rattle.std.proofs.Common.{◌≤◌, None, sym, ap, subst, arith, rules}
 use Rattle.offset_layout.proofs.Reading.{rows_are}
-use Rattle.offset_output.proofs.Growing.{has, more_keeps, null_counted, null_put}
+use Rattle.offset_output.proofs.Growing.{has, null_counted, null_put}
+use Rattle.copying.proofs.Keeping.{keeps_more}
+use Rattle.copying.specs.Keeping.{Keeps}
+use Rattle.offset_output.specs.Memories.{counted}
 use Rattle.copying.proofs.Nulls.{nulls_below}
 use Rattle.offset_output.specs.Fillings.{held_rows}
 use Rattle.offset_output.proofs.filled.Filled.put_null.Goals as goal
@@ -19,7 +22,7 @@ invariant_of-self g c =
     let num = g.W.Width.number in
     let s = c.args.self.now in
     let h = null_put num s.memory s.held s.has c.requires c.index-self-held.result in
-    record { has = has num _ _ _ h (null_counted s.held (held_rows s) s.has.counts); keeps = more_keeps num s.memory _ s.kept s.held s.has s.keeps _ None refl (rows_are h) }
+    record { has = has num _ _ _ h (null_counted s.held (held_rows s) s.has.counts); keeps = subst (λ rows. Keeps counted rows s.kept) (sym (rows_are h)) (keeps_more counted (held_rows s) s.kept s.keeps None) }
 
 pub returns-clause-rows : goal.returns-clause-rows
 returns-clause-rows g c =

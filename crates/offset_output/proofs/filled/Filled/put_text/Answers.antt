@@ -1,6 +1,8 @@
-use Rattle.std.proofs.Common.{[], ◌∷◌, ◌++◌, Some, refl, ap, ◌∙◌}
+use Rattle.std.proofs.Common.{[], ◌∷◌, ◌++◌, Some, sym, ap, subst, ◌∙◌}
+use Rattle.copying.proofs.Keeping.{keeps_more}
+use Rattle.copying.specs.Keeping.{Keeps}
 use Rattle.offset_layout.proofs.Reading.{rows_are}
-use Rattle.offset_output.proofs.Growing.{has, more_keeps, text_counted, text_put}
+use Rattle.offset_output.proofs.Growing.{has, text_counted, text_put}
 use Rattle.offset_output.specs.Fillings.{held_rows}
 use Rattle.offset_output.specs.Memories.{counted}
 use Rattle.text.proofs.Forms.{formed_from_utf8}
@@ -15,7 +17,7 @@ invariant_of-self g c =
     let h = text_put num s.memory s.held s.has c.requires.room c.args.text.now c.as_bytes.result.now e (formed_from_utf8 _ c.as_bytes.ensures.utf8) c.requires.fits c.args.end c.requires.end c.write-self.new.self w.offsets w.values w.validity in
     record {
       has = rw w.counts (has num _ _ _ h (text_counted s.held (held_rows s) s.has.counts _ ∙ ap (λ t. counted (held_rows s ++ Some t ∷ [])) e));
-      keeps = rw w.counts (more_keeps num s.memory _ s.kept s.held s.has s.keeps _ (Some c.args.text.now) refl (rows_are h));
+      keeps = rw w.counts (subst (λ rows. Keeps counted rows s.kept) (sym (rows_are h)) (keeps_more counted (held_rows s) s.kept s.keeps (Some c.args.text.now)));
     }
 
 pub returns-clause-rows : goal.returns-clause-rows

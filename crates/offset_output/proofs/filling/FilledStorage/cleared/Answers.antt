@@ -14,7 +14,7 @@ invariant_of-result g c =
     let h : c.default-2.result ≡ counted [] = none_counted c.default-2.result c.default-2.ensures in
     record {
       has = rw h (has g.W.Width.number c.clear.new.self [] (counted []) (no_rows _ _ _ _ _ _ e.offsets e.values e.validity) refl);
-      keeps = rw (k, h) (record { first = omega arith; counts = refl });
+      keeps = rw (k, h) (record { first = omega arith; counted = refl });
     }
 
 pub returns-clause-zeros : goal.returns-clause-zeros

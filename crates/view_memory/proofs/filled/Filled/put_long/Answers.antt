@@ -1,10 +1,13 @@
-use Rattle.std.proofs.Common.{◌≡◌, ◌+◌, [], ◌∷◌, ◌++◌, length, Some, ap, arith}
+use Rattle.std.proofs.Common.{◌≡◌, ◌+◌, [], ◌∷◌, ◌++◌, length, Some, ap, arith, sym, subst}
 use Rattle.text.proofs.Forms.{formed_from_utf8}
+use Rattle.copying.proofs.Keeping.{keeps_more}
+use Rattle.copying.specs.Keeping.{Keeps}
+use Rattle.view_memory.specs.Memories.{counts_of}
 use Rattle.view_memory.specs.Fillings.{held_rows}
 use Rattle.view_memory.specs.Layout.{buffers_of}
 use Rattle.view_memory.proofs.Counting.{count_long, longs_most}
 use Rattle.view_memory.proofs.Growing.{placed}
-use Rattle.view_memory.proofs.Keeping.{counted, has, more_keeps, rows_again}
+use Rattle.view_memory.proofs.Keeping.{counted, has, rows_again}
 use Rattle.view_memory.proofs.Laying.{rows_ordered}
 use Rattle.view_memory.proofs.Places.{has_end}
 use Rattle.view_memory.proofs.Putting.{long_put}
@@ -44,7 +47,7 @@ invariant_of-self c =
     let l : length c.as_bytes.result.now ≡ length t = ap length b.value in
     let h = long_put m n s.held (held_rows s) s.has s.counted c.requires.room t c.as_bytes.result.now b.value (formed_from_utf8 _ b.utf8) w.validity c.requires.long c.requires.may c.place-buffer.result.0 c.place-buffer.result.1 p.buffer p.offset w.views w.ends w.bytes in
     let k = count_long s.held (held_rows s) s.counted t c.requires.long c.place-buffer.result.0 (s.held.value_bytes + length c.as_bytes.result.now) p.buffer (omega arith) in
-    rw w.counts (record { has = has n _ rows h k; counted = counted n _ rows h k; keeps = more_keeps m n s.kept s.held s.counted s.keeps _ (Some t) (rows_again n _ rows h k) k })
+    rw w.counts (record { has = has n _ rows h k; counted = counted n _ rows h k; keeps = subst (λ rows. Keeps counts_of rows s.kept) (sym (rows_again n _ rows h k)) (keeps_more counts_of (held_rows s) s.kept s.keeps (Some t)) })
 
 pub returns-clause-rows : goal.returns-clause-rows
 returns-clause-rows c =
