@@ -1,6 +1,6 @@
 -- What is known of memory with rows in it: all of it by the rows, and what the rule refuses a row for.
-use Rattle.std.specs.Prelude.{◌≡◌, ℕ, ◌≤◌, List, map, length, ℤ}
-use Rattle.std.proofs.Common.{ap, ◌∙◌, arith}
+use Rattle.std.specs.Prelude.{◌≡◌, ℕ, List, map, length, ℤ}
+use Rattle.std.proofs.Common.{ap, ◌∙◌}
 use Rattle.std.proofs.lemmas.List.{length-map}
 use Rattle.offset_layout.specs.Layout.{offsets_of, values_of}
 use Rattle.offset_layout.proofs.Judging.{own_faults}

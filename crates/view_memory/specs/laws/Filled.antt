@@ -1,12 +1,11 @@
 -- What is known of memory with rows in it: all of it by the rows, and what the rule refuses a row for.
-use Rattle.std.specs.Prelude.{◌≡◌, ℕ, ◌≤◌, List, length}
-use Rattle.std.proofs.Common.{ap, ◌∙◌, arith}
+use Rattle.std.specs.Prelude.{◌≡◌, ℕ, List, length}
+use Rattle.std.proofs.Common.{ap, ◌∙◌}
 use Rattle.output.specs.Rows.{OwnFault}
-use Rattle.output.specs.declared.Counts.{Counts}
 use Rattle.source.specs.Rows.{Row}
 use Rattle.view_memory.specs.laws.Judging.{own_faults}
 use Rattle.view_memory.specs.Layout.{ends_of, views_of}
-use Rattle.view_memory.specs.Memories.{Has, image, laid, memory_of, rows_of, rule_of, sizes_of}
+use Rattle.view_memory.specs.Memories.{Has, image, laid, memory_of, rule_of, sizes_of}
 use Rattle.view_memory.specs.Rule.{capacity, end_capacity}
 use Rattle.view_memory.specs.declared.memory.Memory.{Memory}
 use Rattle.writing.specs.Bitmaps.{bitmap_of}
