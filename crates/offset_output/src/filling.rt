@@ -12,6 +12,7 @@ use copying::storage::Storage;
 use fault::Fault;
 use output::Counts;
 
+// That there is room is asked of each writer: it is no invariant, since memory may be full.
 impl<W: OffsetWidth> Filled<'_, W> {
     /// Whether there is memory for a row more. Eight times the bitmap's bytes may wrap, so the capacity itself is not computed.
     fn has_room(&self) -> bool

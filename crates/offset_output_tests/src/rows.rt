@@ -2,6 +2,7 @@
 use fault::Fault;
 use output::Piece;
 
+// These three stand in `view_output_tests` too: a crate of their own for them would be no plainer.
 pub fn text(text: &str) -> Piece<'_> {
     Piece {
         text: Some(text),

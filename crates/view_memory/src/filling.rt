@@ -15,6 +15,7 @@ use fault::Fault;
 use output::Counts;
 use view_cells::cells::SHORT;
 
+// That there is room is asked of each writer: it is no invariant, since memory may be full.
 impl Filled<'_> {
     /// Puts a null behind the rows.
     fn put_null(&mut self)

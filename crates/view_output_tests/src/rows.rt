@@ -4,6 +4,7 @@ use output::{Counts, Output, Piece};
 use view_memory::memory::Memory;
 use view_output::view_output::ViewOutput;
 
+// These three stand in `offset_output_tests` too: a crate of their own for them would be no plainer.
 pub fn text(text: &str) -> Piece<'_> {
     Piece {
         text: Some(text),
