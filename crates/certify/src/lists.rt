@@ -46,9 +46,10 @@ pub trait Lists: Sized + Drop {
     /// Makes a row null.
     fn make_null(&mut self, row: usize);
 
-    /// Makes every damaged line a null row: opening goes on behind each, so that every line is checked once.
+    /// Makes every damaged line a null row: opening goes on behind each.
     fn null_damaged(&mut self) -> Result<(), Fault> {
         let mut first = 0;
+        // At most once a line: a count of turns, by which nothing is indexed.
         for _ in 0..self.rows() {
             match self.check_from(first) {
                 Ok(()) => return Ok(()),

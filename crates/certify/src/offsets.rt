@@ -14,7 +14,6 @@ pub struct OffsetLists {
     offsets: Vec<i64>,
     values: Vec<u8>,
     validity: Vec<u8>,
-    rows: usize,
 }
 
 impl OffsetLists {
@@ -29,7 +28,7 @@ impl OffsetLists {
 
     /// The column of all rows.
     pub fn open(&self) -> Result<OffsetColumn<'_, i64>, Fault> {
-        OffsetColumn::open(self.rows, self.lent(0, Some(self.validity.as_slice())))
+        OffsetColumn::open(self.rows(), self.lent(0, Some(self.validity.as_slice())))
     }
 }
 
@@ -44,22 +43,20 @@ impl Lists for OffsetLists {
             };
             offsets.push(offset)?;
         }
-        let rows = ends.len();
-        let validity = all_valid(heap, rows)?;
+        let validity = all_valid(heap, ends.len())?;
         Ok(OffsetLists {
             offsets,
             values: bytes,
             validity,
-            rows,
         })
     }
 
     fn rows(&self) -> usize {
-        self.rows
+        self.offsets.len().saturating_sub(1)
     }
 
     fn check_from(&self, first: usize) -> Result<(), Fault> {
-        OffsetColumn::open(self.rows.saturating_sub(first), self.lent(first, None))?;
+        OffsetColumn::open(self.rows().saturating_sub(first), self.lent(first, None))?;
         Ok(())
     }
 

@@ -15,7 +15,6 @@ pub struct ViewLists {
     data: Vec<u8>,
     ends: Vec<u64>,
     validity: Vec<u8>,
-    rows: usize,
 }
 
 /// Puts the view of a text behind the others; refused where a word would not hold its length or its offset.
@@ -54,7 +53,7 @@ impl ViewLists {
 
     /// The column of all rows.
     pub fn open(&self) -> Result<ViewColumn<'_>, Fault> {
-        ViewColumn::open(self.rows, self.lent(0, Some(self.validity.as_slice())))
+        ViewColumn::open(self.rows(), self.lent(0, Some(self.validity.as_slice())))
     }
 }
 
@@ -71,25 +70,23 @@ impl Lists for ViewLists {
             push_view(&mut views, text, start)?;
             start = end;
         }
-        let rows = ends.len();
         let mut buffers = Vec::new(heap);
         buffers.push(bytes.len() as u64)?;
-        let validity = all_valid(heap, rows)?;
+        let validity = all_valid(heap, ends.len())?;
         Ok(ViewLists {
             views,
             data: bytes,
             ends: buffers,
             validity,
-            rows,
         })
     }
 
     fn rows(&self) -> usize {
-        self.rows
+        self.views.len() / 16
     }
 
     fn check_from(&self, first: usize) -> Result<(), Fault> {
-        ViewColumn::open(self.rows.saturating_sub(first), self.lent(first, None))?;
+        ViewColumn::open(self.rows().saturating_sub(first), self.lent(first, None))?;
         Ok(())
     }
 

@@ -14,14 +14,15 @@ use std::alloc::AllocError;
 
 /// Rows of text, checked when they were opened.
 pub struct OffsetColumn<'a, W: Width> {
+    // The caller's: the lists may be longer.
     rows: usize,
     lent: Lent<'a, W>,
     ghost sound: { accepts (verdict rows (lists W.number lent)) ≡ true },
 }
 
+// By hand: a derive refuses a generic struct with a ghost field (tried).
 impl<'a, W: Width> Copy for OffsetColumn<'a, W> {}
 
-// By hand: a derive refuses a generic struct with a ghost field (tried).
 impl<'a, W: Width> Clone for OffsetColumn<'a, W> {
     ghost is_clone = { λ it copy. copy ≡ it };
 
@@ -39,6 +40,7 @@ impl<'a, W: Width> OffsetColumn<'a, W> {
         ensures { rows_in result.rows (lists W.number result.lent) ≡ [] }
     {
         OffsetColumn {
+            // No `Default`: its derive is refused for a struct with a ghost field.
             rows: 0,
             lent: Lent {
                 offsets: &[],

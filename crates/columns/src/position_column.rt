@@ -10,6 +10,7 @@ use source::Positions;
 /// Positions, checked when they were opened.
 #[derive(Clone, Copy)]
 pub struct PositionColumn<'a> {
+    // The caller's: the lists may be longer.
     rows: usize,
     values: &'a [i64],
     validity: Option<&'a [u8]>,
@@ -31,6 +32,7 @@ impl<'a> PositionColumn<'a> {
         ensures { positions_in result.rows (numbers result.values result.validity) ≡ [] }
     {
         PositionColumn {
+            // No `Default`: its derive is refused for a struct with a ghost field.
             rows: 0,
             values: &[],
             validity: None,

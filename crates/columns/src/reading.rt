@@ -59,7 +59,7 @@ impl<'a, W: Width> Lent<'a, W> {
         requires { enough rows (lists W.number self.now) ≡ true }
         ensures { fault_of result ≡ first_fault (row_fault (lists W.number self.now)) rows }
     {
-        // By numbers, which rows and faults go by; a chain with a closure is no plainer.
+        // By numbers, which rows and faults go by. With `try_for_each` (tried) it was not proved that each number is one that the call may be asked for.
         for row in 0..rows {
             self.check_row(row)?;
         }

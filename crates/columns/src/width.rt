@@ -3,7 +3,7 @@ ghost use Rattle.std.specs.Prelude.{◌≡◌, ℕ, ℤ};
 ghost use Rattle.columns.specs.Offsets.{place_of};
 
 /// A width means the number of each of its offsets, and states its largest one.
-// Its impls give `place` alike, since what `try_from` answers is known of a given type only; a law about it is no plainer.
+// Its impls give `place` alike: what `try_from` answers is known of a given type, and a library of numbers for one line is no plainer.
 pub trait Width: Copy {
     ghost number: { Self → ℤ };
 

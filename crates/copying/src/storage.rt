@@ -1,5 +1,5 @@
 //! Memory that rows are copied to.
-ghost use Rattle.std.specs.Prelude.{◌≡◌, ℕ, ◌≤◌, List, [], length, replicate, take, None};
+ghost use Rattle.std.specs.Prelude.{◌≡◌, ℕ, ◌≤◌, List, [], length, replicate, take, None, OnErr};
 ghost use Rattle.output.specs.declared.Counts.{Counts};
 ghost use Rattle.output.specs.Rows.{OwnFault, Rule, grown, nulls_in};
 ghost use Rattle.source.specs.Rows.{Row};
@@ -52,6 +52,7 @@ pub trait Storage {
     fn add(&mut self, text: Option<&str>) -> Result<(), Fault>
         ensures verdict { fault_of result ≡ rule (memory self.old) (rows self.old) (option_map (λ x. x.now) text.entry) }
         ensures rows { rows self.new ≡ grown result (rows self.old) (option_map (λ x. x.now) text.entry) }
+        ensures refused { OnErr result (self.new ≡ self.old) }
         ensures kept { kept self.new ≡ kept self.old }
         ensures rule { rule (memory self.new) ≡ rule (memory self.old) }
         ensures sizes { sizes (memory self.new) ≡ sizes (memory self.old) };

@@ -49,6 +49,7 @@ pub enum Fault {
 }
 
 impl Fault {
+    // A number by listing, and no discriminant: a rule of the project has it listed, case by case, in `specs/`.
     /// The number under which the fault is reported.
     pub fn number(self) -> u8
         ensures { result ≡ number_of self }

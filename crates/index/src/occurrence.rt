@@ -16,7 +16,7 @@ pub fn occurrence_left<F: Searcher>(row: &[u8], finder: &F, n: u64) -> Option<us
     Some(start + finder.find(&row[start..])?)
 }
 
-// The twin of `occurrence_left`: the two keep the Rust's names and differ in direction, not in a type, a size or a constant.
+// The twin of `occurrence_left`: the two differ in direction, not in a type, a size or a constant.
 /// Where occurrence `n` (0-based) from the right stands.
 pub fn occurrence_right<F: Searcher>(row: &[u8], finder: &F, n: u64) -> Option<usize>
     ensures place { result ≡ slice_get (occurrences_back (F.delimiter finder.now) row.now) n }

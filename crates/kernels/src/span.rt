@@ -68,7 +68,7 @@ impl<'a, S> Span<'a, S> {
         self.source.text(self.first + row)
     }
 
-    // Beside `text`: no bound says that a type is a source or positions.
+    // Beside `text`: a text and a number are read by two traits.
     /// The position at a row; nothing where it is null or past the end.
     pub fn position(&self, row: usize) -> Option<i64>
     where

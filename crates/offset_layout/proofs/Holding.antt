@@ -87,12 +87,6 @@ module _ {os : List ℤ} {vs bs : List ℕ} {rows : List Row} {m u : ℕ} (h : H
       let b = bitmap_cut rows n m c lt (length bs) (omega arith) in
       record { count = length-take-le n rows (omega arith); size = ek; room = omega arith; fits = omega arith; texts = formed_take n rows h.texts; offsets_are = cc; values_are = cc; bitmap_is = cc }
 
-  -- the same, as the writes give it one after the other
-  pub cut_to : (os' : List ℤ) (vs' bs' bs'' : List ℕ) → os' ≡ paste os (n + 1) (replicate (m + 1 - (n + 1)) (pos 0)) (m + 1 - (n + 1)) → vs' ≡ paste vs k (zeros (u - k)) (u - k) → bs' ≡ set bs (n / 8) (get_or bs (n / 8) 0 % 2 ^ (n % 8)) → bs'' ≡ paste bs' (n / 8 + 1) (zeros ((m - 1) / 8 + 1 - (n / 8 + 1))) ((m - 1) / 8 + 1 - (n / 8 + 1)) → Holds os' vs' bs'' (take n rows) n k
-  cut_to os' vs' bs' bs'' eo ev eb eb' =
-      let e : m + 1 - (n + 1) ≡ m - n = omega arith in
-      rw (eo, ev, eb', eb, e) cut_rows
-
 -- where the last row ends
 pub last_offset : {os : List ℤ} {vs bs : List ℕ} {rows : List Row} {n u : ℕ} → Holds os vs bs rows n u → (d : ℤ) → n < length os → get_or os n d ≡ pos u
 last_offset {os} {vs} {bs} {rows} {n} {u} h d l =

@@ -77,9 +77,6 @@ module _ {os : List ℤ} {vs bs : List ℕ} {rows : List Row} {n u : ℕ} (h : H
       let kn : k < n = omega arith in
       at_rows_by f n k d kn ∙ (row_held k kn ∙ get_or_default rows k None d (omega arith)))
 
-  pub sound_from : Holds os vs bs (rows_in n (column os vs bs)) n u
-  sound_from = rw rows_are h
-
 -- no fault anywhere
 first_fault_clear : (f : ℕ → Verdict) (n : ℕ) → ((k : ℕ) → k < n → f k ≡ None) → first_fault f n ≡ None
 first_fault_clear f zero h = refl
@@ -105,6 +102,3 @@ module _ {os : List ℤ} {vs bs : List ℕ} {rows : List Row} {n u : ℕ} (h : H
   pub opens : verdict n (column os vs bs) ≡ None
   opens =
       ap (λ b. then (unless b ShortList) (first_fault (row_fault (column os vs bs)) n)) has_enough ∙ first_fault_clear (row_fault (column os vs bs)) n no_row_fault
-
-pub length_rows : (m : Lists) (n : ℕ) → length (rows_in n m) ≡ n
-length_rows m n = length_rows_by (row_at m) n

@@ -51,6 +51,8 @@ impl<W: OffsetWidth> Filled<'_, W> {
     }
 }
 
+// Its short functions stand in the other layout too: one `Filled` over any memory would need the invariant as a trait's member, a trait
+// more between storage and memory, which is no plainer.
 impl<'a, W: OffsetWidth> Storage for Filled<'a, W> {
     type Memory = Memory<'a, W>;
 

@@ -1,6 +1,7 @@
 //! Signed 32-bit offsets.
 use crate::width::OffsetWidth;
 
+// Beside the other width's: what `try_from` answers is known of a given type, and not of any integer.
 impl OffsetWidth for i32 {
     fn zero() -> i32 {
         0

@@ -1,6 +1,7 @@
 //! Signed 64-bit offsets.
 use crate::width::OffsetWidth;
 
+// Beside the other width's: what `try_from` answers is known of a given type, and not of any integer.
 impl OffsetWidth for i64 {
     fn zero() -> i64 {
         0

@@ -2,7 +2,7 @@
 //! An output holds kept rows and pending rows, and a rule that never changes gives its verdict on a coming row.
 #![tactic(auto)]
 
-ghost use Rattle.std.specs.Prelude.{◌≡◌, ℕ, List, [], ◌++◌, map, length, None, Option};
+ghost use Rattle.std.specs.Prelude.{◌≡◌, ℕ, List, [], ◌++◌, map, length, None};
 ghost use Rattle.output.specs.declared.Counts.{Counts};
 ghost use Rattle.output.specs.Pieces.{piece_of};
 ghost use Rattle.output.specs.Rows.{Comes, OwnFault, Terms, grown, nulls_in, row_of};
@@ -40,6 +40,7 @@ pub struct Counts {
     pub long_views: usize,
 }
 
+// Of each function that changes an output a clause says what it leaves of the three members: that is its contract, and no invariant.
 /// An output means the rows that it keeps, the rows that are pending, and the terms on which it takes rows, which never change.
 pub trait Output {
     /// What is given back at the end.

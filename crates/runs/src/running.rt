@@ -1,10 +1,9 @@
 //! Every call of a list, one after the other.
 ghost use Rattle.std.specs.Prelude.{◌≡◌, ◌<◌, [], map, length, IfOk, None, MatchResult, OnErr, OnOk, slice_index_or};
-ghost use Rattle.book.specs.Book.{after, after_all, answer, answers};
 ghost use Rattle.book.specs.OnTerms.{all_kept_on, answer_on, answers_on, kept_on};
-ghost use Rattle.book.specs.Requests.{AllOver, Over, asked_by, asked_rows, nothing};
+ghost use Rattle.book.specs.Requests.{AllOver, Over, asked_rows, nothing};
 ghost use Rattle.book.specs.Runs.{Booked, Runs};
-ghost use Rattle.output.specs.Rows.{nulls_in, on_rows, row_of};
+ghost use Rattle.output.specs.Rows.{nulls_in, row_of};
 
 use crate::CallList;
 use calls::making::make;
@@ -12,6 +11,7 @@ use fault::Fault;
 use output::{Counts, Output};
 use std::alloc::{AllocError, Global};
 
+// What each function leaves of an output it says by the same clauses as `Output`.
 /// Makes one call of the list.
 fn make_number<'t, L: CallList<'t>, O: Output>(
     calls: &L,

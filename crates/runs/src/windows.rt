@@ -2,7 +2,7 @@
 ghost use Rattle.std.specs.Prelude.{◌≡◌, ◌^◌, ◌<◌, true, [], map, length, is_some, IfSome, IfNone, MatchOption, ◌==◌, ◌≢◌};
 ghost use Rattle.book.specs.Book.{after, after_all, answer, answers};
 ghost use Rattle.book.specs.Division.{Agreed, all_taken, parts, sum_told, total};
-ghost use Rattle.book.specs.OnTerms.{all_kept_on, answer_on, answers_on, kept_on};
+ghost use Rattle.book.specs.OnTerms.{answer_on, kept_on};
 ghost use Rattle.book.specs.Requests.{Over, asked_by, asked_rows};
 ghost use Rattle.output.specs.Rows.{on_rows, row_of};
 ghost use Rattle.runs.specs.Covers.{covers};

@@ -7,7 +7,7 @@ ghost use Rattle.source.specs.Rows.{Row};
 ghost use Rattle.std.specs.Option.{option_map};
 
 pub mod repeated;
-mod repeated_position;
+mod repeated_positions;
 pub mod window;
 
 /// A source means a list of rows, each null or a text. A question changes nothing.

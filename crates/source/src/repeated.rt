@@ -8,6 +8,7 @@ use crate::Source;
 #[derive(Clone, Copy)]
 pub struct Repeated<T> {
     pub(crate) row: Option<T>,
+    // The caller's: no list tells it.
     pub(crate) rows: usize,
 }
 

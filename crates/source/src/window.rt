@@ -10,6 +10,7 @@ use fault::Fault;
 pub struct Window<'w, S> {
     source: &'w S,
     first: usize,
+    // The caller's: no list tells it.
     rows: usize,
 }
 
@@ -38,7 +39,7 @@ impl<'w, S> Window<'w, S> {
     }
 
     /// The same of positions.
-    // Beside `new`: no bound says that a type is a source or positions.
+    // Beside `new`: one over a trait of both could speak of how many rows there are, and not of the rows.
     pub fn of_positions(positions: &'w S, first: usize, rows: usize) -> Result<Window<'w, S>, Fault>
     where
         S: Positions,

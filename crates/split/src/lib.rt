@@ -3,9 +3,9 @@
 #![tactic(auto)]
 
 ghost use Rattle.std.specs.Prelude.{◌≡◌, ◌≤◌, length};
-ghost use Rattle.std.specs.Option.{option_map, unwrap_or};
+ghost use Rattle.std.specs.Option.{option_map};
 ghost use Rattle.std.specs.List.{slice_get};
-ghost use Rattle.split.specs.Fields.{answered, field_at, left_fields, missing, part, right_fields};
+ghost use Rattle.split.specs.Fields.{answered, field_at, left_fields, part, right_fields};
 ghost use Rattle.split.specs.Laws.{LowestFirst, HighestFirst, Rejoined, Uncut};
 
 use fault::Fault;

@@ -11,19 +11,21 @@ pub fn past_occurrences<F: Searcher>(row: &[u8], finder: &F, n: u64) -> Option<u
     ensures within { IfSome result (λ p. p ≤ length row.now) }
 {
     let mut start = 0;
+    // A count of passes: nothing is indexed by it.
     for _passed in 0..n {
         start += finder.find(&row[start..])? + finder.len();
     }
     Some(start)
 }
 
-// The twin of `past_occurrences`: the two keep the Rust's names and differ in direction, not in a type, a size or a constant.
+// The twin of `past_occurrences`: the two differ in direction, not in a type, a size or a constant.
 /// Where the first `n` occurrences from the right begin; nothing where there are fewer.
 pub fn before_occurrences<F: Searcher>(row: &[u8], finder: &F, n: u64) -> Option<usize>
     ensures place { result ≡ start_before (length row.now) (occurrences_back (F.delimiter finder.now) row.now) n }
     ensures within { IfSome result (λ p. p ≤ length row.now) }
 {
     let mut end = row.len();
+    // A count of passes: nothing is indexed by it.
     for _passed in 0..n {
         end = finder.rfind(&row[0..end])?;
     }

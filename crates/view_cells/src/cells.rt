@@ -8,6 +8,7 @@ use writing::bytes::{put_text, wipe};
 /// A text of up to so many bytes stands in its view.
 pub const SHORT: usize = 12;
 
+// That there is room for 16 bytes is asked of each writer: a place in a list is no value of its own that could hold it.
 /// Writes a 32-bit number, little-endian.
 fn put_word(bytes: &mut [u8], at: usize, n: u32)
     requires { at + 4 ≤ length bytes.old }

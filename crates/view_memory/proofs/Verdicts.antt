@@ -1,13 +1,12 @@
 -- What an accepted row has.
-use Rattle.std.proofs.Common.{◌≡◌, ℕ, ◌+◌, ◌<◌, ◌≤◌, true, false, cond, not, ◌&&◌, ltb, leb, List, length, None, sym, ap, ◌∙◌, inl, inr, arith}
-use Rattle.std.proofs.lemmas.Bool.{le-leb, lt-leb, leb-true, ltb-true, cases_lt, and_from}
-use Rattle.fault.specs.declared.Fault.TheVariants.{RowsFull, TooLong, EndsFull, BytesFull}
-use Rattle.source.specs.Rows.{Row}
+use Rattle.std.proofs.Common.{◌≡◌, ℕ, ◌+◌, ◌<◌, ◌≤◌, true, false, cond, not, ◌&&◌, leb, length, None, sym, ap, ◌∙◌, inl, inr, arith}
+use Rattle.std.proofs.lemmas.Bool.{le-leb, lt-leb, leb-true, cases_lt, and_from}
+use Rattle.fault.specs.declared.Fault.TheVariants.{TooLong, EndsFull, BytesFull}
 use Rattle.source.specs.Verdicts.{unless}
 use Rattle.source.proofs.Faults.{true_from_unless, then_none}
 use Rattle.views.specs.Layout.{Data}
-use Rattle.view_memory.specs.Layout.{opens, buffers_of}
-use Rattle.view_memory.specs.Rule.{text_verdict, long_verdict, row_verdict, view_rule}
+use Rattle.view_memory.specs.Layout.{opens}
+use Rattle.view_memory.specs.Rule.{text_verdict, long_verdict}
 
 module _ (E B : ℕ) (d : Data) (n : ℕ) where
   pub text_may : text_verdict E B d n ≡ None → n ≤ 2147483647
@@ -30,10 +29,3 @@ module _ (E B : ℕ) (d : Data) (n : ℕ) where
                   absurd (omega arith)
             ],
       )
-
-module _ (C E B : ℕ) (rows : List Row) (n : ℕ) (en : n ≡ length rows) where
-  pub rule_may : (row : Row) → view_rule C E B rows row ≡ None → (n < C) × (row_verdict E B (buffers_of rows) row ≡ None)
-  rule_may row h =
-      let p = then_none (unless (ltb (length rows) C) (RowsFull 0)) (row_verdict E B (buffers_of rows) row) h in
-      let q = ltb-true (length rows) C (true_from_unless (ltb (length rows) C) _ p.0) in
-      (omega arith, p.1)

@@ -54,6 +54,8 @@ impl Filled<'_> {
     }
 }
 
+// Its short functions stand in the other layout too: one `Filled` over any memory would need the invariant as a trait's member, a trait
+// more between storage and memory, which is no plainer.
 impl<'a> Storage for Filled<'a> {
     type Memory = Memory<'a>;
 

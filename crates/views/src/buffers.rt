@@ -40,7 +40,7 @@ impl<'a> Buffers<'a> {
         ensures answer { fault_of result ≡ ends_fault (held self.entry) }
         ensures buffers { IfOk result (λ c. c.buffers ≡ self.entry) }
     {
-        // By numbers, which buffers go by; a chain with a closure is no plainer.
+        // By numbers, which buffers go by. With `try_for_each` (tried in `columns`) it was not proved that each number is one that the call may be asked for.
         for buffer in 0..self.ends.len() {
             if !self.end_holds(buffer) {
                 return Err(Fault::BufferEnd);

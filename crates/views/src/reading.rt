@@ -38,7 +38,7 @@ impl<'a> Lent<'a> {
             return Err(Fault::ShortList);
         }
         let buffers = self.buffers.check()?;
-        // By numbers, which rows and faults go by; a chain with a closure is no plainer.
+        // By numbers, which rows and faults go by. With `try_for_each` (tried in `columns`) it was not proved that each number is one that the call may be asked for.
         for row in 0..rows {
             if is_valid(self.validity, row) {
                 buffers.check(row, self.view(row))?;

@@ -18,6 +18,7 @@ use source::Source;
 /// Rows of text, checked when they were opened.
 #[derive(Clone, Copy)]
 pub struct ViewColumn<'a> {
+    // The caller's: the lists may be longer.
     rows: usize,
     lent: Lent<'a>,
     ghost sound: { accepts (verdict rows (lists lent)) ≡ true },
@@ -30,6 +31,7 @@ impl<'a> ViewColumn<'a> {
         ensures { rows_in result.rows (lists result.lent) ≡ [] }
     {
         ViewColumn {
+            // No `Default`: its derive is refused for a struct with a ghost field.
             rows: 0,
             lent: Lent {
                 views: &[],

@@ -1,4 +1,4 @@
-//! One position or null, any number of times.
+//! One row repeated, as positions.
 ghost use Rattle.std.specs.Prelude.{replicate};
 
 use crate::Positions;
