@@ -1,6 +1,7 @@
 //! Condition lines, and the certificates that they stand for.
-ghost use Rattle.std.specs.Prelude.{◌≡◌};
+ghost use Rattle.std.specs.Prelude.{◌≡◌, Some};
 ghost use Rattle.certificates.specs.Records.{judgement, read};
+ghost use Rattle.certificates.specs.Reports.{refusal_text};
 
 use crate::numerals::numeral;
 use std::fmt;
@@ -53,6 +54,8 @@ impl Condition<'_> {
 }
 
 impl fmt::Display for Refusal {
+    ghost output = { λ refusal. Some (refusal_text refusal) };
+
     fn fmt<W: fmt::Write>(&self, f: &mut fmt::Formatter<W>) -> fmt::Result {
         match self {
             Refusal::FieldCount => write!(f, "not a letter and three fields"),

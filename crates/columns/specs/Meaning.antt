@@ -2,7 +2,7 @@
 use Rattle.std.specs.Prelude.{◌≡◌, ℕ, ◌+◌, ◌<◌, ◌≤◌, true, cond, List, length, pos, ◌≤ℤ◌, Some, None, slice_index_or, unsigned_abs}
 use Rattle.std.specs.List.{between}
 use Rattle.fault.specs.declared.Fault.{Fault}
-use Rattle.fault.specs.declared.Fault.TheVariants.{ShortList, BufferEnd, Offset, View, Malformed, Window, OperandRows, ZeroPosition, RowsFull, TooLong, EndsFull, BytesFull}
+use Rattle.fault.specs.declared.Fault.TheVariants.{ShortList, Offset, Malformed}
 use Rattle.bitmap.specs.Validity.{Covers, valid}
 use Rattle.source.specs.Verdicts.{Verdict}
 use Rattle.text.specs.Table.{WellFormed}
@@ -42,15 +42,8 @@ abbrev pub Refused : ℕ → Lists → Fault → Type 0
 Refused n m ShortList = Enough n m → ⊥
 Refused n m (Offset i) = Enough n m × (i < n) × RowsHold m i × (OffsetsHold m i → ⊥)
 Refused n m (Malformed i) = Enough n m × (i < n) × RowsHold m i × OffsetsHold m i × (valid m.validity i ≡ true) × (WellFormed (run m i) → ⊥)
-Refused n m BufferEnd = ⊥
-Refused n m (View i) = ⊥
-Refused n m Window = ⊥
-Refused n m OperandRows = ⊥
-Refused n m (ZeroPosition i) = ⊥
-Refused n m (RowsFull i) = ⊥
-Refused n m (TooLong i) = ⊥
-Refused n m (EndsFull i) = ⊥
-Refused n m (BytesFull i) = ⊥
+-- no other fault comes
+Refused n m e = ⊥
 
 -- what a verdict says
 abbrev pub Says : ℕ → Lists → Verdict → Type 0

@@ -1,7 +1,7 @@
 -- When rows may be opened, and when each fault comes, in the layout's words.
 use Rattle.std.specs.Prelude.{◌≡◌, ℕ, ◌+◌, ◌-◌, ◌*◌, ◌<◌, ◌≤◌, true, List, length, Some, None, slice_index}
 use Rattle.fault.specs.declared.Fault.{Fault}
-use Rattle.fault.specs.declared.Fault.TheVariants.{ShortList, BufferEnd, Offset, View, Malformed, Window, OperandRows, ZeroPosition, RowsFull, TooLong, EndsFull, BytesFull}
+use Rattle.fault.specs.declared.Fault.TheVariants.{ShortList, BufferEnd, View, Malformed}
 use Rattle.bitmap.specs.Validity.{Covers, valid}
 use Rattle.source.specs.Verdicts.{Verdict}
 use Rattle.text.specs.Table.{WellFormed}
@@ -51,14 +51,8 @@ Refused n m ShortList = Enough n m → ⊥
 Refused n m BufferEnd = Enough n m × (EndsHold m.buffers → ⊥)
 Refused n m (View i) = Reaches n m i × (ViewHolds m.buffers (view m i) → ⊥)
 Refused n m (Malformed i) = Reaches n m i × ViewHolds m.buffers (view m i) × (WellFormed (text m.buffers (view m i)) → ⊥)
-Refused n m (Offset i) = ⊥
-Refused n m Window = ⊥
-Refused n m OperandRows = ⊥
-Refused n m (ZeroPosition i) = ⊥
-Refused n m (RowsFull i) = ⊥
-Refused n m (TooLong i) = ⊥
-Refused n m (EndsFull i) = ⊥
-Refused n m (BytesFull i) = ⊥
+-- no other fault comes
+Refused n m e = ⊥
 
 -- what a verdict says
 abbrev pub Says : ℕ → Lists → Verdict → Type 0

@@ -1,5 +1,6 @@
 //! Counting a line, and reading the counts.
-ghost use Rattle.std.specs.Prelude.{◌≡◌, is_ok, if◌then◌else◌};
+ghost use Rattle.std.specs.Prelude.{◌≡◌, Some, is_ok, if◌then◌else◌};
+ghost use Rattle.certificates.specs.Reports.{too_many};
 ghost use Rattle.certificates.specs.Tallies.{counted, counts, none};
 
 use super::{Outcome, Tally};
@@ -62,6 +63,8 @@ impl fmt::Display for Tally {
 }
 
 impl fmt::Display for TooManyLines {
+    ghost output = { λ _. Some too_many };
+
     fn fmt<W: fmt::Write>(&self, f: &mut fmt::Formatter<W>) -> fmt::Result {
         write!(f, "more lines than can be counted")
     }
