@@ -10,7 +10,7 @@ fn open<'a, W: Width>(
     offsets: &'a [W],
     values: &'a [u8],
     validity: Option<&'a [u8]>,
-) -> (u8, usize) {
+) -> Option<(u8, usize)> {
     told(OffsetColumn::open(
         rows,
         Lent {
@@ -23,58 +23,60 @@ fn open<'a, W: Width>(
 
 #[test]
 fn no_rows_need_no_lists(rt: HostRuntime) {
-    assert!(rt; open::<i32>(0, &[], b"", None) == (0, 0));
-    assert!(rt; open::<i64>(0, &[], b"", Some(b"")) == (0, 0));
+    assert!(rt; open::<i32>(0, &[], b"", None) == None);
+    assert!(rt; open::<i64>(0, &[], b"", Some(b"")) == None);
     assert!(rt;
-        open::<i32>(0, &[-1], b"", None) == (0, 0),
+        open::<i32>(0, &[-1], b"", None) == None,
         "no offset is read"
     );
 }
 
 #[test]
 fn short_lists(rt: HostRuntime) {
-    assert!(rt; open::<i32>(1, &[0], b"", None) == (1, 0));
-    assert!(rt; open::<i64>(1, &[0], b"", None) == (1, 0));
+    assert!(rt; open::<i32>(1, &[0], b"", None) == Some((1, 0)));
+    assert!(rt; open::<i64>(1, &[0], b"", None) == Some((1, 0)));
     assert!(rt;
-        open::<i32>(2, &[-1, 0], b"", None) == (1, 0),
+        open::<i32>(2, &[-1, 0], b"", None) == Some((1, 0)),
         "before the rows"
     );
-    assert!(rt; open::<i32>(1, &[0, 0], b"", Some(b"")) == (1, 0));
-    assert!(rt; open::<i32>(8, &[0, 0, 0, 0, 0, 0, 0, 0, 0], b"", Some(b"\xff")) == (0, 0));
-    assert!(rt; open::<i32>(9, &[0, 0, 0, 0, 0, 0, 0, 0, 0, 0], b"", Some(b"\xff")) == (1, 0));
-    assert!(rt; open::<i32>(18446744073709551615, &[0, 0], b"", Some(b"\xff")) == (1, 0));
-    assert!(rt; open::<i64>(18446744073709551608, &[0], b"", None) == (1, 0));
+    assert!(rt; open::<i32>(1, &[0, 0], b"", Some(b"")) == Some((1, 0)));
+    assert!(rt; open::<i32>(8, &[0, 0, 0, 0, 0, 0, 0, 0, 0], b"", Some(b"\xff")) == None);
+    assert!(rt;
+        open::<i32>(9, &[0, 0, 0, 0, 0, 0, 0, 0, 0, 0], b"", Some(b"\xff")) == Some((1, 0))
+    );
+    assert!(rt; open::<i32>(18446744073709551615, &[0, 0], b"", Some(b"\xff")) == Some((1, 0)));
+    assert!(rt; open::<i64>(18446744073709551608, &[0], b"", None) == Some((1, 0)));
 }
 
 #[test]
 fn offsets_out_of_order(rt: HostRuntime) {
-    assert!(rt; open::<i32>(1, &[-1, 0], b"ab", None) == (3, 0));
-    assert!(rt; open::<i32>(1, &[3, 3], b"ab", None) == (3, 0));
-    assert!(rt; open::<i32>(3, &[0, 1, 2, 1], b"ab", None) == (3, 2));
-    assert!(rt; open::<i64>(3, &[0, 1, 2, 3], b"ab", None) == (3, 2));
-    assert!(rt; open::<i64>(2, &[0, 1, -1], b"ab", None) == (3, 1));
-    assert!(rt; open::<i64>(2, &[0, 1, 9223372036854775807], b"ab", None) == (3, 1));
+    assert!(rt; open::<i32>(1, &[-1, 0], b"ab", None) == Some((3, 0)));
+    assert!(rt; open::<i32>(1, &[3, 3], b"ab", None) == Some((3, 0)));
+    assert!(rt; open::<i32>(3, &[0, 1, 2, 1], b"ab", None) == Some((3, 2)));
+    assert!(rt; open::<i64>(3, &[0, 1, 2, 3], b"ab", None) == Some((3, 2)));
+    assert!(rt; open::<i64>(2, &[0, 1, -1], b"ab", None) == Some((3, 1)));
+    assert!(rt; open::<i64>(2, &[0, 1, 9223372036854775807], b"ab", None) == Some((3, 1)));
     assert!(rt;
-        open::<i32>(2, &[0, 2, 1], b"ab", Some(b"\x00")) == (3, 1),
+        open::<i32>(2, &[0, 2, 1], b"ab", Some(b"\x00")) == Some((3, 1)),
         "the offsets of a null row are looked at"
     );
 }
 
 #[test]
 fn malformed_rows(rt: HostRuntime) {
-    assert!(rt; open::<i32>(2, &[0, 1, 2], b"\xffb", None) == (5, 0));
-    assert!(rt; open::<i32>(2, &[0, 1, 2], b"a\xff", None) == (5, 1));
+    assert!(rt; open::<i32>(2, &[0, 1, 2], b"\xffb", None) == Some((5, 0)));
+    assert!(rt; open::<i32>(2, &[0, 1, 2], b"a\xff", None) == Some((5, 1)));
     assert!(rt;
-        open::<i64>(2, &[0, 1, 2], b"\xc3\xa9", None) == (5, 0),
+        open::<i64>(2, &[0, 1, 2], b"\xc3\xa9", None) == Some((5, 0)),
         "a character in two rows"
     );
-    assert!(rt; open::<i64>(1, &[0, 2], b"\xc3\xa9", None) == (0, 0));
+    assert!(rt; open::<i64>(1, &[0, 2], b"\xc3\xa9", None) == None);
     assert!(rt;
-        open::<i32>(2, &[0, 1, 2], b"a\xff", Some(b"\x01")) == (0, 0),
+        open::<i32>(2, &[0, 1, 2], b"a\xff", Some(b"\x01")) == None,
         "the text of a null row is not looked at"
     );
     assert!(rt;
-        open::<i32>(3, &[0, 1, 2, 1], b"a\xff", None) == (5, 1),
+        open::<i32>(3, &[0, 1, 2, 1], b"a\xff", None) == Some((5, 1)),
         "rows upward"
     );
 }
@@ -99,7 +101,7 @@ fn rows_are_read(rt: HostRuntime) -> Result<(), Fail> {
         values: b"",
         validity: None,
     };
-    assert!(rt; told(OffsetColumn::open(1, short)) == (1, 0));
+    assert!(rt; told(OffsetColumn::open(1, short)) == Some((1, 0)));
     assert!(rt;
         column.rows() == 3,
         "beside a refused opening the column is as it was"

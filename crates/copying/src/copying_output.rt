@@ -30,6 +30,7 @@ impl<S: Storage> CopyingOutput<S> {
         }
     }
 
+    // A function that does nothing, and no law of `Output`: `image` is the storage's word.
     /// A fact for proofs, what all memory holds after every call: the rows held, and else zeros; it does nothing.
     #[tactic(auto, using(crate::specs::laws::Held::rows_parts))]
     pub fn image(&self)

@@ -12,7 +12,8 @@ use copying::storage::Storage;
 use fault::Fault;
 use output::Counts;
 
-// That there is room is asked of each writer: it is no invariant, since memory may be full.
+// That there is room is asked of each writer: it is no invariant, since memory may be full. That sizes and `kept` stay is what a writer
+// leaves of the old value, which an invariant cannot say.
 impl<W: OffsetWidth> Filled<'_, W> {
     /// Whether there is memory for a row more. Eight times the bitmap's bytes may wrap, so the capacity itself is not computed.
     fn has_room(&self) -> bool

@@ -17,6 +17,7 @@ pub struct Memory<'a, W: OffsetWidth> {
     pub validity: &'a mut [u8],
 }
 
+// That the sizes stay is a clause of each writer: it is of the old value and the new, which an invariant cannot say.
 impl<W: OffsetWidth> Memory<'_, W> {
     /// Writes a text behind the rows held: the offset of its end, its bytes and its bit. Answers what the rows take then.
     pub(crate) fn write(&mut self, held: Counts, text: &[u8], end: W) -> Counts

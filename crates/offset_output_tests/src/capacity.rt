@@ -5,6 +5,7 @@ use offset_output::offset_output::OffsetOutput;
 use offset_output::width::OffsetWidth;
 use output::Output;
 
+// Stands in `view_output_tests` too: a crate of its own for it would be no plainer.
 /// Adds the texts, up to one that is refused: the number of its fault.
 fn add_all<O: Output>(out: &mut O, texts: &[&str]) -> Option<u8> {
     let slip = out.open();

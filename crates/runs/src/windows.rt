@@ -1,5 +1,5 @@
 //! A call cut into calls on consecutive windows.
-ghost use Rattle.std.specs.Prelude.{◌≡◌, ◌^◌, ◌<◌, true, [], map, length, is_some, IfSome, IfNone, MatchOption, ◌==◌, ◌≢◌};
+ghost use Rattle.std.specs.Prelude.{◌≡◌, ◌^◌, ◌<◌, true, [], map, is_some, IfSome, IfNone, MatchOption, ◌==◌, ◌≢◌};
 ghost use Rattle.book.specs.Book.{after, after_all, answer, answers};
 ghost use Rattle.book.specs.Division.{Agreed, all_taken, parts, sum_told, total};
 ghost use Rattle.book.specs.OnTerms.{answer_on, kept_on};
@@ -34,6 +34,7 @@ pub struct Told {
     pub rows: usize,
 }
 
+// What each function leaves of an output it says by the same clauses as `Output`.
 /// Makes the call on one window after the other.
 fn make_windows<'t, C: Divisible<'t> + Drop, O: Output>(
     call: &C,

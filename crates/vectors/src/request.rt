@@ -52,6 +52,7 @@ impl Request {
         let [name, row, operand, number, bytes, place] = fields.as_slice() else {
             return Err(Difference::NoRequest);
         };
+        // A signed number first, and no Option: a line has one below 0 for a place that is not compared.
         let place: i64 = place.parse().map_err(|_| Difference::NoRequest)?;
         Ok(Request {
             operation: name.parse().map_err(|_| Difference::NoRequest)?,

@@ -15,7 +15,8 @@ use fault::Fault;
 use output::Counts;
 use view_cells::cells::SHORT;
 
-// That there is room is asked of each writer: it is no invariant, since memory may be full.
+// That there is room is asked of each writer: it is no invariant, since memory may be full. That sizes and `kept` stay is what a writer
+// leaves of the old value, which an invariant cannot say.
 impl Filled<'_> {
     /// Puts a null behind the rows.
     fn put_null(&mut self)

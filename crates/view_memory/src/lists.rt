@@ -26,6 +26,7 @@ fn cut_ends(ends: &mut [u64], kept: Counts, held: Counts)
     }
 }
 
+// That the sizes stay is a clause of each writer: it is of the old value and the new, which an invariant cannot say.
 impl Memory<'_> {
     /// A null behind the rows held writes nothing: what is not written is zero. Answers what the rows take then.
     pub(crate) fn write_null(&self, held: Counts) -> Counts

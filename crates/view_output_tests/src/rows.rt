@@ -26,6 +26,7 @@ pub fn refused(added: Result<(), Fault>) -> Option<u8> {
     added.err().map(|fault| fault.number())
 }
 
+// Stands in `offset_output_tests` too: a crate of its own for it would be no plainer.
 /// Adds the texts, up to one that is refused: the number of its fault.
 fn add_all(out: &mut ViewOutput<'_>, texts: &[&str]) -> Option<u8> {
     let slip = out.open();

@@ -1,5 +1,5 @@
 //! Buffers, and the views that point into them.
-ghost use Rattle.std.specs.Prelude.{◌≡◌, ◌<◌, ◌≤◌, true, length, IfOk, None};
+ghost use Rattle.std.specs.Prelude.{◌≡◌, ◌<◌, true, length, IfOk, None};
 ghost use Rattle.source.specs.Verdicts.{fault_of};
 ghost use Rattle.views.specs.Layout.{buffer_start, fits, in_buffer, part, place, size, text};
 ghost use Rattle.views.specs.Reading.{held};
