@@ -7,5 +7,5 @@ pub mod offset_column;
 pub mod position_column;
 mod reading;
 pub mod width;
-mod width_32;
-mod width_64;
+pub mod width_32;
+pub mod width_64;

@@ -36,10 +36,10 @@ module _ (d t : List ℕ) where
   pub left_none : (n s : ℕ) → Some s ≡ end_after d 0 (occurrences d t) n → ((q : ℕ) → s ≤ q → Stands d t q → ⊥) → slice_get (occurrences d t) n ≡ None
   left_none n s e never = from_there (occurrences d t) n ∙ ap (λ ps. slice_get ps 0) (left_places d t n s (sym e) ∙ past_none d t s never)
 
-  right_here : (n s p : ℕ) → Some s ≡ start_before (length t) (occurrences_back d t) n → Prior d t s p → slice_get (occurrences_back d t) n ≡ Some p
+  pub right_here : (n s p : ℕ) → Some s ≡ start_before (length t) (occurrences_back d t) n → Prior d t s p → slice_get (occurrences_back d t) n ≡ Some p
   right_here n s p e x = from_there (occurrences_back d t) n ∙ ap (λ ps. slice_get ps 0) (right_places d t n s (sym e) ∙ before_some d t s p x)
 
-  right_none : (n s : ℕ) → Some s ≡ start_before (length t) (occurrences_back d t) n → ((q : ℕ) → q + length d ≤ s → Stands d t q → ⊥) → slice_get (occurrences_back d t) n ≡ None
+  pub right_none : (n s : ℕ) → Some s ≡ start_before (length t) (occurrences_back d t) n → ((q : ℕ) → q + length d ≤ s → Stands d t q → ⊥) → slice_get (occurrences_back d t) n ≡ None
   right_none n s e never = from_there (occurrences_back d t) n ∙ ap (λ ps. slice_get ps 0) (right_places d t n s (sym e) ∙ before_none d t s never)
 
   -- what a search before the place s answers

@@ -1,3 +1,3 @@
 pub mod Divided
-mod Parts
-mod Sets
+pub mod Parts
+pub mod Sets

@@ -30,13 +30,10 @@ impl<W: OffsetWidth> Filled<'_, W> {
         ensures kept { self.new.kept ≡ self.old.kept }
         ensures rows { held_rows self.new ≡ held_rows self.old ++ None ∷ [] }
     {
-        let held = self.held;
-        self.memory.offsets[held.rows + 1] = self.memory.offsets[held.rows];
-        self.held = Counts {
-            rows: held.rows + 1,
-            nulls: held.nulls + 1,
-            ..held
-        };
+        let rows = self.held.rows;
+        self.memory.offsets[rows + 1] = self.memory.offsets[rows];
+        self.held.rows = rows + 1;
+        self.held.nulls += 1;
     }
 
     /// Writes a text; `end` is the offset of its end.
@@ -48,7 +45,7 @@ impl<W: OffsetWidth> Filled<'_, W> {
         ensures kept { self.new.kept ≡ self.old.kept }
         ensures rows { held_rows self.new ≡ held_rows self.old ++ Some text.now ∷ [] }
     {
-        self.held = self.memory.write(self.held, text.as_bytes(), end);
+        self.memory.write(&mut self.held, text.as_bytes(), end);
     }
 }
 

@@ -19,24 +19,22 @@ pub struct Memory<'a, W: OffsetWidth> {
 
 // That the sizes stay is a clause of each writer: it is of the old value and the new, which an invariant cannot say.
 impl<W: OffsetWidth> Memory<'_, W> {
-    /// Writes a text behind the rows held: the offset of its end, its bytes and its bit. Answers what the rows take then.
-    pub(crate) fn write(&mut self, held: Counts, text: &[u8], end: W) -> Counts
-        requires room { held.rows < capacity_of self.old }
-        requires fits { held.value_bytes + length text.now ≤ length self.old.values.now }
+    /// Writes a text behind the rows held: the offset of its end, its bytes and its bit; then they take more.
+    // The counts are grown in place, and not answered anew: to copy all five for each row took a sixth of its time.
+    pub(crate) fn write(&mut self, held: &mut Counts, text: &[u8], end: W)
+        requires room { held.old.rows < capacity_of self.old }
+        requires fits { held.old.value_bytes + length text.now ≤ length self.old.values.now }
         ensures sizes { SameSizes self.old self.new }
-        ensures offsets { self.new.offsets.now ≡ slice_set self.old.offsets.now (held.rows + 1) end }
-        ensures values { self.new.values.now ≡ paste self.old.values.now held.value_bytes text.now (length text.now) }
-        ensures validity { self.new.validity.now ≡ marked self.old.validity.now held.rows }
-        ensures counts { result ≡ record held { rows = held.rows + 1; value_bytes = held.value_bytes + length text.now } }
+        ensures offsets { self.new.offsets.now ≡ slice_set self.old.offsets.now (held.old.rows + 1) end }
+        ensures values { self.new.values.now ≡ paste self.old.values.now held.old.value_bytes text.now (length text.now) }
+        ensures validity { self.new.validity.now ≡ marked self.old.validity.now held.old.rows }
+        ensures counts { held.new ≡ record held.old { rows = held.old.rows + 1; value_bytes = held.old.value_bytes + length text.now } }
     {
         self.offsets[held.rows + 1] = end;
         put_text(self.values, held.value_bytes, text);
         mark(self.validity, held.rows);
-        Counts {
-            rows: held.rows + 1,
-            value_bytes: held.value_bytes + text.len(),
-            ..held
-        }
+        held.rows += 1;
+        held.value_bytes += text.len();
     }
 
     /// Zeroes what the rows after the kept ones were written to, and nothing else.

@@ -36,7 +36,8 @@ pub fn hex(heap: Global, field: &str) -> Result<Vec<u8>, HexError> {
     if field == "-" {
         return Ok(bytes);
     }
-    if field.is_empty() {
+    // Before any byte is read: a digit that stands alone at the end of a long field needs no memory.
+    if field.is_empty() || field.len() % 2 != 0 {
         return Err(HexError::NoBytes);
     }
     for pair in field.as_bytes().chunks(2) {

@@ -17,12 +17,6 @@ pub enum Difference {
     Memory(AllocError),
 }
 
-impl From<AllocError> for Difference {
-    fn from(error: AllocError) -> Difference {
-        Difference::Memory(error)
-    }
-}
-
 impl From<HexError> for Difference {
     fn from(error: HexError) -> Difference {
         match error {
@@ -48,8 +42,17 @@ impl Request {
     /// The request of a line.
     pub fn read(heap: Global, line: &[u8]) -> Result<Request, Difference> {
         let line = open_text(line).map_err(|_| Difference::NoRequest)?;
-        let fields: Vec<&str> = line.split('\t').collect(heap)?;
-        let [name, row, operand, number, bytes, place] = fields.as_slice() else {
+        // Asked for one by one, and no list of them: a line of nothing but tabs would need memory for each.
+        let mut fields = line.split('\t');
+        let (Some(name), Some(row), Some(operand), Some(number), Some(bytes), Some(place), None) = (
+            fields.next(),
+            fields.next(),
+            fields.next(),
+            fields.next(),
+            fields.next(),
+            fields.next(),
+            fields.next(),
+        ) else {
             return Err(Difference::NoRequest);
         };
         // A signed number first, and no Option: a line has one below 0 for a place that is not compared.

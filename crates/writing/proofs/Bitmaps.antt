@@ -15,7 +15,7 @@ use Rattle.writing.proofs.Wiping.{wiped_low, wiped_mid, wiped_high}
 
 -- bits
 module _ (f g : ℕ → ℕ) where
-  packed_same : ((j : ℕ) → j < 8 → f j ≡ g j) → packed f ≡ packed g
+  pub packed_same : ((j : ℕ) → j < 8 → f j ≡ g j) → packed f ≡ packed g
   packed_same h = omega (arith, h 0 (omega arith), h 1 (omega arith), h 2 (omega arith), h 3 (omega arith), h 4 (omega arith), h 5 (omega arith), h 6 (omega arith), h 7 (omega arith))
 
 -- what holds at each number below 8
@@ -31,7 +31,7 @@ below_8 P a0 a1 a2 a3 a4 a5 a6 a7 (suc (suc (suc (suc (suc (suc (suc zero)))))))
 below_8 P a0 a1 a2 a3 a4 a5 a6 a7 (suc (suc (suc (suc (suc (suc (suc (suc k)))))))) h = absurd (omega arith)
 
 module _ (f : ℕ → ℕ) where
-  packed_bit : ((k : ℕ) → k < 8 → f k ≤ 1) → (j : ℕ) → j < 8 → packed f / 2 ^ j % 2 ≡ f j
+  pub packed_bit : ((k : ℕ) → k < 8 → f k ≤ 1) → (j : ℕ) → j < 8 → packed f / 2 ^ j % 2 ≡ f j
   packed_bit h =
       let b0 = h 0 (omega arith) in
       let b1 = h 1 (omega arith) in
@@ -44,7 +44,7 @@ module _ (f : ℕ → ℕ) where
       below_8 (λ j. packed f / 2 ^ j % 2 ≡ f j) (omega arith) (omega arith) (omega arith) (omega arith) (omega arith) (omega arith) (omega arith) (omega arith)
 
   module _ (g : ℕ → ℕ) where
-    packed_raise : (j : ℕ) → j < 8 → f j ≡ 0 → g j ≡ 1 → ((k : ℕ) → k < 8 → k ≢ j → f k ≡ g k) → packed g ≡ packed f + 2 ^ j
+    pub packed_raise : (j : ℕ) → j < 8 → f j ≡ 0 → g j ≡ 1 → ((k : ℕ) → k < 8 → k ≢ j → f k ≡ g k) → packed g ≡ packed f + 2 ^ j
     packed_raise =
         below_8 (λ j. f j ≡ 0 → g j ≡ 1 → ((k : ℕ) → k < 8 → k ≢ j → f k ≡ g k) → packed g ≡ packed f + 2 ^ j)
         (λ p q h. omega (arith, h 1 (omega arith) (omega arith), h 2 (omega arith) (omega arith), h 3 (omega arith) (omega arith), h 4 (omega arith) (omega arith), h 5 (omega arith) (omega arith), h 6 (omega arith) (omega arith), h 7 (omega arith) (omega arith)))
@@ -57,7 +57,7 @@ module _ (f : ℕ → ℕ) where
         (λ p q h. omega (arith, h 0 (omega arith) (omega arith), h 1 (omega arith) (omega arith), h 2 (omega arith) (omega arith), h 3 (omega arith) (omega arith), h 4 (omega arith) (omega arith), h 5 (omega arith) (omega arith), h 6 (omega arith) (omega arith)))
 
 -- a bit that is 0 becomes 1
-or_adds : (n j : ℕ) → n / 2 ^ j % 2 ≡ 0 → bit_or n (2 ^ j) ≡ n + 2 ^ j
+pub or_adds : (n j : ℕ) → n / 2 ^ j % 2 ≡ 0 → bit_or n (2 ^ j) ≡ n + 2 ^ j
 or_adds n j h =
     let q : ℕ = n / 2 ^ j in
     let split : q * 2 ^ j + n % 2 ^ j ≡ n = shr_split n j in
@@ -157,7 +157,7 @@ bitmap_null size rows =
     (λ k d lt. bitmap_at size rows k d (omega arith) ∙ sym (byte_null rows k) ∙ sym (bitmap_at size (rows ++ None ∷ []) k d (omega arith)))
 
 -- the rows come out again
-bit_at : (size : ℕ) (rows : List Row) (i : ℕ) → i < 8 * size → get_or (bitmap_of size rows) (i / 8) 0 / 2 ^ (i % 8) % 2 ≡ bit_of (get_or rows i None)
+pub bit_at : (size : ℕ) (rows : List Row) (i : ℕ) → i < 8 * size → get_or (bitmap_of size rows) (i / 8) 0 / 2 ^ (i % 8) % 2 ≡ bit_of (get_or rows i None)
 unfolding byte
 bit_at size rows i h =
     let e = bitmap_at size rows (i / 8) 0 (omega arith) in
@@ -194,7 +194,7 @@ unfolding byte
 byte_past rows b h = packed_same (λ j. bit_of (get_or rows (8 * b + j) None)) (λ j. 0) (λ j h8. ap bit_of (get_or_past rows (8 * b + j) None (omega arith)))
 
 module _ (f g : ℕ → ℕ) (small : (k : ℕ) → k < 8 → f k ≤ 1) where
-  packed_low : (c : ℕ) → c < 8 → ((k : ℕ) → k < 8 → k < c → g k ≡ f k) → ((k : ℕ) → k < 8 → c ≤ k → g k ≡ 0) → packed g ≡ packed f % 2 ^ c
+  pub packed_low : (c : ℕ) → c < 8 → ((k : ℕ) → k < 8 → k < c → g k ≡ f k) → ((k : ℕ) → k < 8 → c ≤ k → g k ≡ 0) → packed g ≡ packed f % 2 ^ c
   packed_low =
       let b0 = small 0 (omega arith) in
       let b1 = small 1 (omega arith) in

@@ -21,10 +21,10 @@ pub invariant_of-self : goal.invariant_of-self
 invariant_of-self g c =
     let num = g.W.Width.number in
     let s = c.args.self.now in
-    let h = null_put num s.memory s.held s.has c.requires c.index-self-held.result in
+    let h = null_put num s.memory s.held s.has c.requires c.index-self-rows.result in
     record { has = has num _ _ _ h (null_counted s.held (held_rows s) s.has.counts); keeps = subst (λ rows. Keeps counted rows s.kept) (sym (rows_are h)) (keeps_more counted (held_rows s) s.kept s.keeps None) }
 
 pub returns-clause-rows : goal.returns-clause-rows
 returns-clause-rows g c =
     let s = c.args.self.now in
-    rows_are (null_put g.W.Width.number s.memory s.held s.has c.requires c.index-self-held.result)
+    rows_are (null_put g.W.Width.number s.memory s.held s.has c.requires c.index-self-rows.result)
