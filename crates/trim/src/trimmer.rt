@@ -20,17 +20,10 @@ pub trait Trimmer {
         ensures answer { (result.0.now, result.1) ≡ trimmed LEFT RIGHT pattern.now input.now }
         ensures rule { Trims LEFT RIGHT pattern.now input.now result.0.now result.1 }
     {
-        let start = if Self::LEFT {
-            leading(input, pattern)
-        } else {
-            0
-        };
+        let (left, right) = (Self::LEFT, Self::RIGHT);
+        let start = if left { leading(input, pattern) } else { 0 };
         let rest = &input[start..];
-        let tail = if Self::RIGHT {
-            trailing(rest, pattern)
-        } else {
-            0
-        };
+        let tail = if right { trailing(rest, pattern) } else { 0 };
         (&rest[0..rest.len() - tail], start as u64)
     }
 

@@ -1,7 +1,9 @@
-use Rattle.std.proofs.Common.{rules}
+use Rattle.std.proofs.Common.{arith, rules}
 use Rattle.std.proofs.lemmas.Fn.{always_returns_same}
 use Rattle.trim.proofs.Matches.{tail_from_trim}
 use Rattle.trim.proofs.chars.trailing_chars.Goals as goal
 
 pub returns : goal.returns
-returns c = tail_from_trim c.args.set.now c.args.text.now _ _ c.utf8.text c.trim_end_matches.ensures.matches (always_returns_same _ _ _ (λ a r f k. search rules))
+returns c =
+    let e = tail_from_trim c.args.set.now c.args.text.now c.trim_end_matches.result.now _ c.utf8.text c.trim_end_matches.ensures.matches (always_returns_same _ _ _ (λ a r f k. search rules)) in
+    omega (arith, e)
