@@ -7,20 +7,13 @@ use Rattle.book.specs.Book.{fed}
 use Rattle.book.specs.Requests.{Over, Request, asked_by, asked_rows, each_offer}
 use Rattle.fault.specs.Faults.{placed_at}
 use Rattle.fault.specs.declared.Fault.{Fault}
-use Rattle.output.specs.Pieces.{piece_of}
 use Rattle.output.specs.Rows.{Comes, Piece, Rule, on_rows, row_of}
-use Rattle.output.specs.declared.Piece.{Piece as Given}
 use Rattle.source.specs.Rows.{Row}
-use Rattle.calls.specs.Offers.{Drawn}
 
 -- what is drawn from the base comes from it
 pub comes_over : (base : Option (List Row)) (drawn : List Row) (p : Piece) → Over base drawn → Comes (Some drawn) p → Comes base p
 comes_over None drawn p o h = tt
 comes_over (Some b) drawn p o h = rw o h
-
--- what was drawn
-pub drawn_piece : (rows : List Row) (r : Result Given Fault) (p : Given) → r ≡ Ok p → Drawn rows r → Comes (Some rows) (piece_of p)
-drawn_piece rows r p e d = subst (Drawn rows) e d
 
 -- a fault that was set at a row, or none
 pub placed_err : {X : Type 0} (r : Result X Fault) (i : ℕ) (f : Fault) → result_map_both (λ x. x) (placed_at i) r ≡ Err f → (e : Fault) × (r ≡ Err e) × (placed_at i e ≡ f)

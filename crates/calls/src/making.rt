@@ -14,7 +14,7 @@ use fault::Fault;
 use output::Output;
 
 /// What a row was told: its fault is set at the row.
-fn at_row<T: Drop>(told: Result<T, Fault>, row: usize) -> Result<T, Fault>
+fn at_row(told: Result<(), Fault>, row: usize) -> Result<(), Fault>
     ensures { result ≡ result_map_both (λ x. x) (placed_at row) told }
 {
     told.map_err(|fault| fault.at(row))
@@ -30,7 +30,7 @@ fn fill<'t, C: Call<'t>, O: Output>(call: &C, rows: usize, out: &mut O) -> Resul
 {
     // By number, as a call is asked for its rows, and as faults go by.
     for row in 0..rows {
-        // Matched, and not by `at_row` as well: to wrap each piece anew took twice the time of a null row.
+        // A match, and not `at_row` as below: wrapping each piece anew doubled the time of a null row.
         let piece = match call.row(row) {
             Ok(piece) => piece,
             Err(own) => return Err(own.at(row)),

@@ -57,7 +57,7 @@ impl<S: Storage> Output for CopyingOutput<S> {
         self.store.rows()
     }
 
-    // A hint: a call adds row by row, and a call of this for each took a quarter of a null row's time.
+    // A hint: where this was not built into the loop over rows, a null row took a third more time.
     #[inline]
     #[tactic(auto, using(crate::specs::laws::Held::rows_parts))]
     fn add(&mut self, piece: Piece<'_>) -> Result<(), Fault> {

@@ -19,8 +19,8 @@ pub struct Memory<'a, W: OffsetWidth> {
 
 // That the sizes stay is a clause of each writer: it is of the old value and the new, which an invariant cannot say.
 impl<W: OffsetWidth> Memory<'_, W> {
-    /// Writes a text behind the rows held: the offset of its end, its bytes and its bit; then they take more.
-    // The counts are grown in place, and not answered anew: to copy all five for each row took a sixth of its time.
+    /// Writes a text behind the rows held: the offset of its end, its bytes and its bit; and grows what the rows held take.
+    // The counts are grown in place, and not answered anew: all five were copied for each row, and two change.
     pub(crate) fn write(&mut self, held: &mut Counts, text: &[u8], end: W)
         requires room { held.old.rows < capacity_of self.old }
         requires fits { held.old.value_bytes + length text.now ≤ length self.old.values.now }

@@ -20,6 +20,7 @@ pub trait Trimmer {
         ensures answer { (result.0.now, result.1) ≡ trimmed LEFT RIGHT pattern.now input.now }
         ensures rule { Trims LEFT RIGHT pattern.now input.now result.0.now result.1 }
     {
+        // Both are read here, so that an edit that swaps them is refused for what it means, and not for its form.
         let (left, right) = (Self::LEFT, Self::RIGHT);
         let start = if left { leading(input, pattern) } else { 0 };
         let rest = &input[start..];

@@ -40,11 +40,8 @@ pub fn hex(heap: Global, field: &str) -> Result<Vec<u8>, HexError> {
     if field.is_empty() || field.len() % 2 != 0 {
         return Err(HexError::NoBytes);
     }
-    for pair in field.as_bytes().chunks(2) {
-        let [high, low] = pair else {
-            return Err(HexError::NoBytes);
-        };
-        bytes.push(byte(*high, *low).ok_or(HexError::NoBytes)?)?;
+    for pair in field.as_bytes().chunks_exact(2) {
+        bytes.push(byte(pair[0], pair[1]).ok_or(HexError::NoBytes)?)?;
     }
     Ok(bytes)
 }
